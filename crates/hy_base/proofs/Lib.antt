@@ -1,0 +1,5 @@
+pub mod ShapeLemmas
+pub mod ScriptLemmas
+pub mod NthLemmas
+pub mod EachLemmas
+pub mod RowLemmas

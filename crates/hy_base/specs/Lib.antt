@@ -1,0 +1,11 @@
+pub mod Faults
+pub mod Lists
+pub mod Spelling
+pub mod Shape
+pub mod Value
+pub mod Entry
+pub mod Log
+pub mod Rows
+pub mod Marks
+pub mod Later
+pub mod Script

@@ -1,0 +1,47 @@
+//! A value with several owners, which contracts see as the value.
+ghost use Rattle.std.specs.Prelude.{◌≡◌, IfOk};
+
+use std::alloc::{AllocError, Global};
+use std::marker::Model;
+use std::sync::Arc;
+
+/// A value that several owners share. Sharing copies nothing.
+#[derive(Drop)]
+pub struct Shared<T> {
+    value: Arc<T, Global>,
+}
+
+impl<T> Model for Shared<T> {
+    ghost use Rattle.std.specs.Arc.{arc_value};
+
+    ghost Value = { T };
+
+    ghost view = { λ s. arc_value s.value };
+}
+
+impl<T: Drop> Shared<T> {
+    /// The value, with one owner.
+    pub fn new(alloc: Global, value: T) -> Result<Shared<T>, AllocError>
+        ensures { IfOk result (λ s. s ≡ value) }
+    {
+        let value = Arc::new(alloc, value)?;
+        Ok(Shared { value })
+    }
+}
+
+impl<T> Shared<T> {
+    /// One more owner of the same value. `AllocError` where it has as many owners as can be counted.
+    pub fn share(&self) -> Result<Shared<T>, AllocError>
+        ensures { IfOk result (λ s. s ≡ self.now) }
+    {
+        let value = Arc::try_clone(&self.value)?;
+        Ok(Shared { value })
+    }
+
+    /// The value, lent.
+    pub fn get(&self) -> &T
+        ensures { result.now ≡ self.now }
+    {
+        &*self.value
+    }
+}

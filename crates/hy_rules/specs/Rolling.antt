@@ -1,0 +1,110 @@
+-- Rolling: groups are validated one after another by the rows alone, without the history.
+--     Of each key a row keeps the last writer, and that is enough to judge by.
+use Rattle.std.specs.Prelude.{◌≡◌, ℕ, zero, suc, ◌+◌, ◌*◌, ◌%◌, ◌≤◌, max, Bool, List, [], ◌∷◌, ◌++◌, length, map, take, drop, Option, None, ◌==◌, if◌then◌else◌}
+use Rattle.hy_base.specs.declared.layout.Shape.{Shape}
+use Rattle.hy_base.specs.declared.record.EntryKind.{EntryKind}
+use Rattle.hy_base.specs.declared.record.EntryKind.TheVariants.{Filler, Txn}
+use Rattle.hy_base.specs.declared.record.Row.{Row}
+use Rattle.hy_base.specs.declared.record.Verdict.{Verdict}
+use Rattle.hy_base.specs.declared.record.Verdict.TheVariants.{Commit, Pre, Mate, Final}
+use Rattle.hy_base.specs.Shape.{base_groups, kept_groups}
+use Rattle.hy_base.specs.Rows.{Each, IsOrdered, applied, newest}
+use Rattle.hy_base.specs.Marks.{MarkSet, AreMarks, lesser, first_late, known_to}
+use Rattle.hy_base.specs.Later.{Later}
+use Rattle.hy_rules.specs.History.{is_commit}
+use Rattle.hy_rules.specs.Validation.{Standing, Filling, Dropped, Joined, dropped_or_joined, joined_writes, group_writes, fate_of, fated, verdicts_after, rows_after}
+
+-- A member as it is staged: checked against the rows at the base by its snapshot, and then against the newest writes of the members that joined before it.
+abbrev pub staged_as : List Row → ℕ → List Row → EntryKind → Standing
+staged_as base_rows base joined (Filler server) = Filling
+staged_as base_rows base joined (Txn i) = dropped_or_joined (first_late (known_to i.snap i) base_rows) (first_late (known_to (max i.snap base) i) (newest joined)) i
+
+-- the members of a group staged in order, the first of these at a position
+abbrev pub staged_members : List Row → ℕ → ℕ → List Row → List EntryKind → List Standing
+staged_members base_rows base pos joined [] = []
+staged_members base_rows base pos joined (e ∷ es) = let m = staged_as base_rows base joined e in m ∷ staged_members base_rows base (pos + 1) (joined ++ joined_writes pos m) es
+
+-- up to which position a joined member knows the writers of a key that it touches
+abbrev pub known_of : ℕ → Standing → ℕ → Option ℕ
+known_of base Filling key = None
+known_of base (Dropped v) key = None
+known_of base (Joined i) key = known_to (max i.snap base) i key
+
+-- the least of these among the members
+abbrev pub least_known : ℕ → List Standing → ℕ → Option ℕ
+least_known base [] key = None
+least_known base (m ∷ ms) key = lesser (known_of base m key) (least_known base ms key)
+
+-- the marks of a group: what its joined members know and write, the first of these members at a position
+abbrev pub AreGroupMarks : ℕ → ℕ → List Standing → MarkSet → Type 0
+AreGroupMarks base pos ms m = AreMarks (least_known base ms) (group_writes pos ms) m
+
+-- the fate of the joined members, by the rows before their group
+abbrev pub fate_on : List Row → ℕ → List Standing → Verdict
+fate_on rows base ms = fate_of (first_late (least_known base ms) rows)
+
+-- the rows after a group that has this fate
+abbrev pub after_fate : Verdict → List Row → List Row → List Row
+after_fate Commit rows writes = applied rows writes
+after_fate (Pre c) rows writes = rows
+after_fate (Mate c) rows writes = rows
+after_fate (Final c) rows writes = rows
+
+-- how many groups are judged, the rows then, those at the premeld base of the next group, those before its window, and the verdicts
+pub record Rolled : Type 0 where
+  pub groups : ℕ
+  pub tree : List Row
+  pub base_tree : List Row
+  pub kept : List Row
+  pub verdicts : List (Option Verdict)
+
+-- before the first group
+abbrev pub not_rolled : Rolled
+not_rolled = record { groups = 0; tree = []; base_tree = []; kept = []; verdicts = [] }
+
+-- The members of the next group. Of the rows only those at its base are read, so all groups of a window can be staged at once.
+abbrev pub staged_next : Shape → Rolled → List EntryKind → List Standing
+staged_next s r entries = staged_members r.base_tree (s.group * base_groups s r.groups) (s.group * r.groups + 1) [] entries
+
+-- The next group is finished on the rows.
+-- With the last group of a window the rows kept become the base rows of the next window, and the rows after the group are kept.
+abbrev pub finished : Shape → Rolled → List Standing → Rolled
+finished s r ms =
+    let fate : Verdict = fate_on r.tree (s.group * base_groups s r.groups) ms in
+    let tree : List Row = after_fate fate r.tree (group_writes (s.group * r.groups + 1) ms) in
+    let turns : Bool = (r.groups + 1) % s.window == 0 in
+    record {
+      groups = r.groups + 1;
+      tree = tree;
+      base_tree = if turns then r.kept else r.base_tree;
+      kept = if turns then tree else r.kept;
+      verdicts = r.verdicts ++ map (fated fate) ms;
+    }
+
+-- one more group
+abbrev pub roll_group : Shape → Rolled → List EntryKind → Rolled
+roll_group s r entries = finished s r (staged_next s r entries)
+
+-- so many more groups, in order
+abbrev pub roll_groups : Shape → ℕ → Rolled → List EntryKind → Rolled
+roll_groups s zero r entries = r
+roll_groups s (suc k) r entries = roll_groups s k (roll_group s r (take s.group entries)) (drop s.group entries)
+
+-- which of the entries past a position committed
+abbrev pub commits_past : ℕ → List (Option Verdict) → List Bool
+commits_past pos vs = map is_commit (drop pos vs)
+
+-- It has rolled the log's first entries, all whole groups, and has what these alone decide. No later entry matters.
+pub record StandsFor (s : Shape) (front : List EntryKind) (r : Rolled) : Type 0 where
+  pub whole : length front ≡ s.group * r.groups
+  pub tree_is : r.tree ≡ rows_after s front r.groups
+  pub base_is : r.base_tree ≡ rows_after s front (base_groups s r.groups)
+  pub kept_is : r.kept ≡ rows_after s front (kept_groups s r.groups)
+  pub verdicts_are : r.verdicts ≡ verdicts_after s front r.groups
+
+-- What it keeps, whether or not it stands for a log: its rows are in order, of writers up to its last group, and grew out of its base rows and out of those that it keeps.
+pub record IsRolled (s : Shape) (r : Rolled) : Type 0 where
+  pub ordered : IsOrdered r.tree
+  pub bounded : Each (λ x. x.writer ≤ s.group * r.groups) r.tree
+  pub base_later : Later r.base_tree r.tree (s.group * base_groups s r.groups)
+  pub kept_later : Later r.kept r.tree (s.group * kept_groups s r.groups)
