@@ -14,6 +14,8 @@ mod record;
 mod report;
 mod shared;
 mod steps;
+#[cfg(test)]
+mod tests;
 mod workload;
 
 pub use command_line::Words;

@@ -23,3 +23,9 @@ pub mod RollLemmas
 pub mod Cuts
 pub mod CommitLemmas
 pub mod EffectLemmas
+pub mod Traces
+pub mod Backward
+pub mod Whole
+pub mod Noted
+pub mod Judged
+pub mod Answered

@@ -23,3 +23,4 @@ pub mod Laws
 pub mod Rolling
 pub mod RollingLaws
 pub mod EffectLaws
+pub mod AnswerLaws

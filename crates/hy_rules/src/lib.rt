@@ -4,8 +4,10 @@
 //! log, and [`fold_on`] goes on from what is known of the first groups. What the rules come to is said by laws, each of
 //! them the contract of a public function: commits are serial, a clash names the least key by its last writer, a run is
 //! finished by its tail rule, a log that grows keeps what its first groups decide, what a program wrote is an entry, and rolling by last writers is the fold.
+//! A finished run answers each program, and a trace has one spelling.
 #![tactic(auto)]
 
+mod answers;
 mod effects;
 mod fold;
 mod group;
@@ -15,6 +17,7 @@ mod tail;
 #[cfg(test)]
 mod tests;
 
+pub use answers::{each_program_is_answered, finished_log_is_whole, trace_is_one};
 pub use effects::{effects_are_in_order, leaves_a_transaction};
 pub use fold::{Folded, Verdicts, fold_on, folded_none, plain_fold};
 pub use laws::{

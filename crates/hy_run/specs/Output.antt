@@ -1,0 +1,84 @@
+-- What a simulation writes.
+use Rattle.std.specs.Prelude.{◌≡◌, ◌≢◌, ◌⊎◌, ℕ, List, [], ◌++◌, Option, Some, None, Ok, Err, IfSome, IsTrue}
+use Rattle.std.specs.Io.KnownBytes.{Appends, IsAtEnd, Keeps}
+use Rattle.hy_base.specs.declared.workload.Event.{Event}
+use Rattle.hy_base.specs.Faults.{Rose}
+use Rattle.hy_base.specs.Script.{Workload}
+use Rattle.hy_base.specs.Spelling.{Text}
+use Rattle.hy_io.specs.Whole.{GivesAtMost, GivesExactly}
+use Rattle.hy_rules.specs.Moves.{State}
+use Rattle.hy_rules.specs.Runs.{run, opening_of, CompletesSchedule, is_finished, ended_in, results_at}
+use Rattle.hy_rules.specs.Texts.{trace_text, report_text, usage_text, script_fault_text, source_fault_text, memory_fault_text}
+use Rattle.hy_run.specs.Form.{Input, read_source, why_text}
+use Rattle.hy_run.specs.declared.why.Why.{Why}
+use Rattle.hy_run.specs.declared.why.Why.TheVariants.{Unbuilt, Disabled, Long}
+use Rattle.hy_run.specs.declared.status.Status.{Status}
+use Rattle.hy_run.specs.declared.status.Status.TheVariants.{Fine, Usage, Script, Source, Sink, Memory}
+
+-- The text tells these events, and what they lead to: they are the schedule followed by those of the tail rule, each may happen in its turn, and the run is finished.
+pub record TellsRun (script : Workload) (schedule events : List Event) (text : Text) : Type 0 where
+  pub completes : CompletesSchedule script [] schedule events
+  pub end : State
+  pub leads : run script (opening_of script []) events ≡ Some end
+  pub finished : IsTrue (is_finished script end)
+  pub text_is : text ≡ trace_text events ++ report_text (results_at script (ended_in script (opening_of script []) events) end)
+
+-- the bytes of a source: those that it tells, or, where it doesn't, some
+abbrev pub AreOf : Option Text → Text → Type 0
+AreOf told bytes = IfSome told (λ known. known ≡ bytes)
+
+-- the text of the run that a source asks for
+pub record IsOutput (told : Option Text) (text : Text) : Type 0 where
+  pub bytes : Text
+  pub are_of : AreOf told bytes
+  pub input : Input
+  pub asked : read_source bytes ≡ Ok input
+  pub events : List Event
+  pub tells : TellsRun input.script input.schedule events text
+
+-- a source has a line that is refused, for this cause
+pub record IsRefused (told : Option Text) (line : ℕ) (why : Why) : Type 0 where
+  pub bytes : Text
+  pub are_of : AreOf told bytes
+  pub refused : read_source bytes ≡ Err (line, why)
+
+-- a sink has taken a part of a text, and not all of it
+pub record WritesPartOf (before now : Option Text) (text : Text) : Type 0 where
+  pub gone : Text
+  pub kept : Text
+  pub parts : text ≡ gone ++ kept
+  pub short : kept ≢ []
+  pub wrote : Appends before now gone
+
+-- a sink has taken a line, or a part of it where its count of faults rose
+abbrev pub WritesLine : Option Text → Option Text → ℕ → ℕ → Text → Type 0
+WritesLine before now faults faults_now text = Appends before now text ⊎ (WritesPartOf before now text × Rose faults faults_now)
+
+-- the line that an answer other than the output writes
+abbrev pub fault_text : Status → Option Text
+fault_text Fine = None
+fault_text Usage = Some usage_text
+fault_text (Script line why) = Some (script_fault_text line (why_text why))
+fault_text Source = Some source_fault_text
+fault_text Sink = None
+fault_text Memory = Some memory_fault_text
+
+-- the exit status
+abbrev pub status_number : Status → ℕ
+status_number Fine = 0
+status_number Usage = 1
+status_number (Script line why) = 2
+status_number Source = 3
+status_number Sink = 4
+status_number Memory = 9
+
+-- How an answer leaves a source. It is at its end where it was read whole; of too long a source one byte more than the most was read, and for a wrong command nothing.
+abbrev pub LeavesSource : Status → Option Text → Option Text → Type 0
+LeavesSource Fine before now = IsAtEnd now
+LeavesSource Usage before now = Keeps before now
+LeavesSource (Script line Unbuilt) before now = IsAtEnd now
+LeavesSource (Script line Disabled) before now = IsAtEnd now
+LeavesSource (Script line Long) before now = GivesExactly before now 16777217
+LeavesSource Source before now = GivesAtMost before now 16777217
+LeavesSource Sink before now = IsAtEnd now
+LeavesSource Memory before now = GivesAtMost before now 16777217

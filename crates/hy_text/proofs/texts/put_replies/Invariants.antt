@@ -1,0 +1,9 @@
+use Rattle.std.proofs.Common.{◌≡◌, ◌+◌, ◌++◌, drop}
+use Rattle.std.specs.Prelude.{flat_map}
+use Rattle.std.specs.List.{enumerate_from}
+use Rattle.hy_rules.specs.Texts.{reply_text}
+use Rattle.hy_text.proofs.texts.put_replies.Given as goal
+
+-- what was written so far, and what is left
+abbrev pub invariant-loop-at : goal.invariant-loop-at
+invariant-loop-at l = l.out.items ++ flat_map (reply_text l.client) (enumerate_from (l.at + 1) (drop l.at l.replies)) ≡ l.initial.out.items ++ flat_map (reply_text l.client) (enumerate_from 1 l.replies)

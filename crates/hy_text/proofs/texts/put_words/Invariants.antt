@@ -1,0 +1,7 @@
+use Rattle.std.proofs.Common.{◌≡◌, ◌++◌, drop}
+use Rattle.hy_text.specs.Words.{spaced}
+use Rattle.hy_text.proofs.texts.put_words.Given as goal
+
+-- what was written so far, and the words that are left
+abbrev pub invariant-loop-word : goal.invariant-loop-word
+invariant-loop-word l = l.out.items ++ spaced (drop l.word-index l.words) ≡ l.initial.out.items ++ spaced l.words

@@ -1,0 +1,2 @@
+pub use Rattle.hy_rules.specs.Texts
+pub mod Words
