@@ -1,6 +1,6 @@
 -- A script that is read is of the first form, and no event of its schedule is a stop.
 use Rattle.std.proofs.Common.{◌≡◌, ℕ, ◌+◌, Bool, true, false, List, [], ◌∷◌, ◌++◌, length, refl, subst}
-use Rattle.std.specs.Prelude.{Option, None, Some, Result, Ok, Err, IfOk, IfSome, ⊤, option_map, option_and_then, nat_lt, ◌&&◌, if◌then◌else◌}
+use Rattle.std.specs.Prelude.{Option, None, Some, Result, Ok, Err, IfOk, IfSome, ⊤, option_map, nat_lt, ◌&&◌, if◌then◌else◌}
 use Rattle.std.specs.Option.{option_map_or}
 use Rattle.std.specs.List.{AllByRecursion}
 use Rattle.hy_base.specs.declared.layout.Shape.{Shape}
@@ -11,28 +11,16 @@ use Rattle.hy_base.specs.declared.workload.Event.TheVariants.{Begin, Append, End
 use Rattle.hy_base.specs.Script.{Workload, IsScript}
 use Rattle.hy_base.specs.Spelling.{Text, number_of}
 use Rattle.hy_run.specs.Form.{Input, after_shape, after_servers, after_listing, after_programming, after_line, event_of, client_event_of, number_within, with_client, with_program, change_last, gains_program, may_begin, is_word, input_at, read_lines, read_form, lines_of, words_of}
+use Rattle.hy_run.proofs.Choices.{if_some, map_some, then_some}
 use Rattle.hy_run.specs.Calls.{IsFirstInput}
 use Rattle.hy_run.specs.Simulation.{IsFirstForm, IsCalm}
 use Rattle.hy_run.specs.Sums.{AreSums, IsSum, HasSums}
 use Rattle.hy_run.specs.declared.place.Place.{Place}
 use Rattle.hy_run.specs.declared.place.Place.TheVariants.{Start, Shaped, Listing, Programming, Scheduling}
 
--- what holds of the values of both branches
-if_some : {X : Type 0} (P : X → Type 0) (b : Bool) (x y : Option X) → IfSome x P → IfSome y P → IfSome (if b then x else y) P
-if_some P true x y p q = p
-if_some P false x y p q = q
-
-map_some : {X Y : Type 0} (P : Y → Type 0) (f : X → Y) (o : Option X) → ((x : X) → P (f x)) → IfSome (option_map f o) P
-map_some P f None p = tt
-map_some P f (Some x) p = p x
-
 map_known : {X Y : Type 0} (Q : X → Type 0) (P : Y → Type 0) (f : X → Y) (o : Option X) → IfSome o Q → ((x : X) → Q x → P (f x)) → IfSome (option_map f o) P
 map_known Q P f None q p = tt
 map_known Q P f (Some x) q p = p x q
-
-then_some : {X Y : Type 0} (P : Y → Type 0) (f : X → Option Y) (o : Option X) → ((x : X) → IfSome (f x) P) → IfSome (option_and_then f o) P
-then_some P f None p = tt
-then_some P f (Some x) p = p x
 
 or_else : {X Y E : Type 0} (Q : X → Type 0) (P : Y → Type 0) (f : X → Result Y E) (o : Option X) (e : E) → IfSome o Q → ((x : X) → Q x → IfOk (f x) P) → IfOk (option_map_or f o (Err e)) P
 or_else Q P f None e q p = tt

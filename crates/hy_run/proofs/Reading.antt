@@ -1,12 +1,13 @@
 -- The reading of lines, one after another.
 use Rattle.std.proofs.Common.{arith, ltb-true, ◌≡◌, ℕ, ◌+◌, ◌<◌, ◌≤◌, Bool, true, false, ◌&&◌, List, [], ◌∷◌, length, length-append, refl, sym, ap, ◌∙◌, if◌then◌else◌, nat_lt}
-use Rattle.std.specs.Prelude.{Option, Some, None, option_map, option_and_then, Err, IfSome}
+use Rattle.std.specs.Prelude.{Option, Some, None, Err, IfSome}
 use Rattle.std.specs.Option.{option_map_or}
 use Rattle.hy_base.specs.Spelling.{Text, number_of}
 use Rattle.hy_base.specs.Script.{Workload}
 use Rattle.hy_base.specs.declared.layout.Shape.{Shape}
 use Rattle.hy_base.specs.declared.workload.Command.{Command}
 use Rattle.hy_run.specs.Form.{lines_of, words_of, is_word, may_begin, with_client, with_program, number_within, after_shape, after_servers, after_listing, after_programming, after_line, event_of, input_at, read_lines, read_form}
+use Rattle.hy_run.proofs.Choices.{if_some, map_some, then_some}
 use Rattle.hy_run.specs.Parts.{IsPlace, event_count}
 use Rattle.hy_run.specs.declared.place.Place.{Place}
 use Rattle.hy_run.specs.declared.place.Place.TheVariants.{Start, Shaped, Listing, Programming, Scheduling}
@@ -14,35 +15,25 @@ use Rattle.hy_run.specs.declared.why.Why.TheVariants.{Unbuilt, Long}
 
 -- A line adds at most one event.
 
+abbrev HasFew : ℕ → Place → Type 0
+HasFew n place = event_count place ≤ n
+
 abbrev HasAtMost : ℕ → Option Place → Type 0
-HasAtMost n next = IfSome next (λ p. event_count p ≤ n)
-
-if_some : (n : ℕ) (t : Bool) (x y : Option Place) → HasAtMost n x → HasAtMost n y → HasAtMost n (if t then x else y)
-if_some n true x y p q = p
-if_some n false x y p q = q
-
-map_some : {A : Type 0} (n : ℕ) (o : Option A) (f : A → Place) → ((a : A) → event_count (f a) ≤ n) → HasAtMost n (option_map f o)
-map_some n None f each = tt
-map_some n (Some a) f each = each a
-
-then_some : {A : Type 0} (n : ℕ) (o : Option A) (f : A → Option Place) → ((a : A) → HasAtMost n (f a)) → HasAtMost n (option_and_then f o)
-then_some n None f each = tt
-then_some n (Some a) f each = each a
+HasAtMost n next = IfSome next (HasFew n)
 
 none_yet : 0 ≤ 1
 none_yet = omega arith
 
 -- a place without an event, where a test holds
 early : (t : Bool) (place : Place) → event_count place ≤ 1 → HasAtMost 1 (if t then Some place else None)
-early true place few = few
-early false place few = tt
+early t place few = if_some (HasFew 1) t (Some place) None few tt
 
 shape_few : (words : List Text) → HasAtMost 1 (after_shape words)
 shape_few [] = tt
 shape_few (a ∷ []) = tt
 shape_few (a ∷ b ∷ []) = tt
 shape_few (a ∷ b ∷ c ∷ []) = tt
-shape_few (a ∷ b ∷ c ∷ d ∷ []) = if_some 1 _ _ None (map_some 1 (number_within 1 2147483648 d) _ (λ n. none_yet)) tt
+shape_few (a ∷ b ∷ c ∷ d ∷ []) = if_some (HasFew 1) _ _ None (map_some (HasFew 1) _ (number_within 1 2147483648 d) (λ n. none_yet)) tt
 shape_few (a ∷ b ∷ c ∷ d ∷ e ∷ words) = tt
 
 servers_few : (shape : Shape) (words : List Text) → HasAtMost 1 (after_servers shape words)
@@ -54,7 +45,7 @@ servers_few shape (a ∷ b ∷ c ∷ words) = tt
 listing_few : (script : Workload) (words : List Text) → HasAtMost 1 (after_listing script words)
 listing_few script [] = tt
 listing_few script (a ∷ []) =
-    if_some 1 (is_word a "begin" && may_begin script.clients) (Some (Programming script [])) (if is_word a "schedule" then Some (Scheduling script []) else None)
+    if_some (HasFew 1) (is_word a "begin" && may_begin script.clients) (Some (Programming script [])) (if is_word a "schedule" then Some (Scheduling script []) else None)
     none_yet (early (is_word a "schedule") (Scheduling script []) none_yet)
 listing_few script (a ∷ b ∷ []) = early (is_word a "client" && (is_word b "1" && nat_lt (length script.clients) 16)) (Listing (with_client 1 script)) none_yet
 listing_few script (a ∷ b ∷ c ∷ words) = tt
@@ -63,7 +54,7 @@ programming_few : (script : Workload) (commands : List Command) (words : List Te
 programming_few script commands [] = tt
 programming_few script commands (a ∷ []) = early (is_word a "end") (Listing (with_program commands script)) none_yet
 programming_few script commands (a ∷ b ∷ []) = tt
-programming_few script commands (a ∷ b ∷ c ∷ []) = if_some 1 _ _ None (then_some 1 (number_of b) _ (λ k. map_some 1 (number_of c) _ (λ m. none_yet))) tt
+programming_few script commands (a ∷ b ∷ c ∷ []) = if_some (HasFew 1) _ _ None (then_some (HasFew 1) _ (number_of b) (λ k. map_some (HasFew 1) _ (number_of c) (λ m. none_yet))) tt
 programming_few script commands (a ∷ b ∷ c ∷ d ∷ words) = tt
 
 one_more_event : (place : Place) (words : List Text) → HasAtMost (event_count place + 1) (after_line place words)
@@ -71,7 +62,7 @@ one_more_event Start words = shape_few words
 one_more_event (Shaped shape) words = servers_few shape words
 one_more_event (Listing script) words = listing_few script words
 one_more_event (Programming script commands) words = programming_few script commands words
-one_more_event (Scheduling script events) words = map_some (length events + 1) (event_of script words) _ (λ event. omega (arith, length-append events (event ∷ [])))
+one_more_event (Scheduling script events) words = map_some (HasFew (length events + 1)) _ (event_of script words) (λ event. omega (arith, length-append events (event ∷ [])))
 
 -- Where the reading of bytes stands: what is left, from the line of this number on, is read as the whole.
 pub record Stands (bytes : Text) (place : Place) (number : ℕ) (rest : Text) : Type 0 where

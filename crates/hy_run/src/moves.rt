@@ -1,5 +1,5 @@
 //! One event after another, each of which may happen.
-ghost use Rattle.std.specs.Prelude.{◌≡◌, ℕ, ◌+◌, ◌^◌, ◌<◌, ◌≤◌, length, true, Some, None, OnOk};
+ghost use Rattle.std.specs.Prelude.{◌≡◌, ◌+◌, ◌^◌, ◌<◌, length, true, Some, None, OnOk};
 ghost use Rattle.std.specs.Option.{option_copied};
 ghost use Rattle.hy_base.specs.declared.workload.Event.TheVariants.{Begin, Append, End as Ends, Refuse, Publish};
 ghost use Rattle.hy_base.specs.Shape.{IsWithin};
@@ -182,7 +182,6 @@ fn append_at_end(script: &Script, core: &mut Core, client: u8) -> Result<(), All
     requires may { may_happen script.now (state_of core.old) (Append client) ≡ true }
     ensures { OnOk result (Steps script.now core.old core.new (Append client)) }
 {
-    let _shape = script.shape();
     let pos = core.log.len() as Pos + 1;
     append(core, client, pos)
 }
@@ -193,7 +192,6 @@ fn finish_reading(script: &Script, core: &mut Core, client: u8) -> Result<(), Al
     requires may { may_happen script.now (state_of core.old) (Ends client) ≡ true }
     ensures { OnOk result (Steps script.now core.old core.new (Ends client)) }
 {
-    let _shape = script.shape();
     finish(core, client, End::Reading)
 }
 
@@ -203,7 +201,6 @@ fn finish_refused(script: &Script, core: &mut Core, client: u8) -> Result<(), Al
     requires may { may_happen script.now (state_of core.old) (Refuse client) ≡ true }
     ensures { OnOk result (Steps script.now core.old core.new (Refuse client)) }
 {
-    let _shape = script.shape();
     finish(core, client, End::FullLog)
 }
 

@@ -1,6 +1,6 @@
 //! What a finished run tells.
-ghost use Rattle.std.specs.Prelude.{◌≡◌, ◌+◌, ◌≤◌, ◌++◌, ◌∷◌, [], List, ℕ, length, map, filter, find, is_some, Some, IfOk, OnOk, option_to_list};
-ghost use Rattle.std.specs.List.{enumerate_from, AllByRecursion};
+ghost use Rattle.std.specs.Prelude.{◌≡◌, ◌+◌, ◌≤◌, ◌++◌, List, length, find, is_some, Some, IfOk, OnOk, option_to_list};
+ghost use Rattle.std.specs.List.{AllByRecursion};
 ghost use Rattle.std.specs.Option.{option_copied};
 ghost use Rattle.hy_rules.specs.History.{live_rows};
 ghost use Rattle.hy_rules.specs.Runs.{verdict_at, outcome_of, results_at};

@@ -1,5 +1,5 @@
 //! A script is run: its schedule, and then the tail rule to the end.
-ghost use Rattle.std.specs.Prelude.{◌≡◌, ◌++◌, List, ℕ, [], Some, None, OnOk, IfOk, IsOk, IsErrOf};
+ghost use Rattle.std.specs.Prelude.{◌≡◌, List, ℕ, [], Some, None, OnOk, IfOk, IsOk, IsErrOf};
 ghost use Rattle.std.specs.List.{AllByRecursion};
 ghost use Rattle.hy_rules.specs.Runs.{opening_of, next_event, first_disabled};
 ghost use Rattle.hy_run.specs.Simulation.{IsFirstForm, IsCalm, IsCore, IsSimulation, Follows, HasTail, state_of, done_of};

@@ -1,6 +1,6 @@
 //! The core's state: the log, the board of the one server, the clients' seats, and what was told.
-ghost use Rattle.std.specs.Prelude.{◌≡◌, ℕ, [], map, nat_lt, length, Some, None, IfOk, IsTrue, Option, Bool, false, if◌then◌else◌};
-ghost use Rattle.std.specs.Option.{option_copied, option_map_or};
+ghost use Rattle.std.specs.Prelude.{◌≡◌, [], Some, None, IfOk, Option, false, if◌then◌else◌};
+ghost use Rattle.std.specs.Option.{option_copied};
 ghost use Rattle.hy_base.specs.Lists.{nth};
 ghost use Rattle.hy_rules.specs.Moves.{is_begun};
 ghost use Rattle.hy_base.specs.declared.workload.Event.TheVariants.{Begin, Append, End as Ends, Refuse, Publish};
