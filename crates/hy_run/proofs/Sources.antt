@@ -4,7 +4,7 @@ use Rattle.std.proofs.lemmas.List.{length-replicate}
 use Rattle.std.specs.Prelude.{Option, None, Some, Result, Ok, Err, IfErr, IfSome, ⊤, option_map}
 use Rattle.std.specs.Option.{option_map_or}
 use Rattle.hy_base.specs.declared.workload.Event.{Event}
-use Rattle.hy_base.specs.Script.{Workload}
+use Rattle.hy_base.specs.Script.{Workload, IsScript}
 use Rattle.hy_base.specs.Spelling.{Text}
 use Rattle.hy_rules.specs.Moves.{State}
 use Rattle.hy_rules.specs.Runs.{step, opening_of, first_disabled}
@@ -44,8 +44,8 @@ pub read_whole : (bytes : Text) (input : Input) → read_form bytes ≡ Ok input
 read_whole bytes input read enabled = rw (read_source, read, checked_schedule, enabled) refl
 
 pub run_read : (bytes : Text) (input : Input) (events : List Event) (results : Results) → read_form bytes ≡ Ok input → first_disabled input.script (opening_of input.script []) input.schedule ≡ None
-    → IsSimulation input.script input.schedule events results → IsRunOf bytes events results
-run_read bytes input events results read enabled is = record { input = input; asked = read_whole bytes input read enabled; is = is }
+    → IsScript input.script → IsSimulation input.script input.schedule events results → IsRunOf bytes events results
+run_read bytes input events results read enabled script is = record { input = input; asked = read_whole bytes input read enabled; script = script; is = is }
 
 -- and else it is refused by the line of the first that may not
 pub read_disabled : (bytes : Text) (input : Input) (index : ℕ) → read_form bytes ≡ Ok input → first_disabled input.script (opening_of input.script []) input.schedule ≡ Some index
@@ -92,6 +92,7 @@ output_of told bytes text same is = record {
   are_of = are_these told is.bytes (subst (λ b. IfSome told (λ left. b ≡ left)) is.are_of same);
   input = is.input;
   asked = is.asked;
+  script = is.script;
   events = is.events;
   tells = is.tells;
 }

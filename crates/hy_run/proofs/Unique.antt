@@ -54,4 +54,4 @@ one_output bytes t u p q =
 
 -- a run that is told is finished, and a finished run answers each program
 pub each_is_answered : OutputAnswersEach
-each_is_answered script schedule events text is told = each_program_is_answered script [] events told.end is (omega arith) told.leads told.finished
+each_is_answered source text o = each_program_is_answered o.input.script [] o.events o.tells.end o.script (omega arith) o.tells.leads o.tells.finished

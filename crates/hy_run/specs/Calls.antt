@@ -4,6 +4,7 @@ use Rattle.std.specs.List.{AllByRecursion}
 use Rattle.hy_base.specs.declared.report.Results.{Results}
 use Rattle.hy_base.specs.declared.workload.Event.{Event}
 use Rattle.hy_base.specs.Faults.{Rose}
+use Rattle.hy_base.specs.Script.{IsScript}
 use Rattle.hy_base.specs.Spelling.{Text}
 use Rattle.hy_run.specs.Output.{IsRefused}
 use Rattle.hy_run.specs.Form.{Input, read_source}
@@ -23,6 +24,7 @@ pub record IsFirstInput (input : Input) : Type 0 where
 pub record IsRunOf (bytes : Text) (events : List Event) (results : Results) : Type 0 where
   pub input : Input
   pub asked : read_source bytes ≡ Ok input
+  pub script : IsScript input.script
   pub is : IsSimulation input.script input.schedule events results
 
 -- there is no run: the bytes are refused, or memory ran out

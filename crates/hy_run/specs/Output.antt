@@ -3,7 +3,7 @@ use Rattle.std.specs.Prelude.{◌≡◌, ◌≢◌, ◌⊎◌, ℕ, List, [], �
 use Rattle.std.specs.Io.KnownBytes.{Appends, IsAtEnd, Keeps}
 use Rattle.hy_base.specs.declared.workload.Event.{Event}
 use Rattle.hy_base.specs.Faults.{Rose}
-use Rattle.hy_base.specs.Script.{Workload}
+use Rattle.hy_base.specs.Script.{Workload, IsScript}
 use Rattle.hy_base.specs.Spelling.{Text}
 use Rattle.hy_io.specs.Whole.{GivesAtMost, GivesExactly}
 use Rattle.hy_rules.specs.Moves.{State}
@@ -27,12 +27,13 @@ pub record TellsRun (script : Workload) (schedule events : List Event) (text : T
 abbrev pub AreOf : Option Text → Text → Type 0
 AreOf told bytes = IfSome told (λ known. known ≡ bytes)
 
--- the text of the run that a source asks for
+-- the text of the run that a source asks for, by a script within its limits
 pub record IsOutput (told : Option Text) (text : Text) : Type 0 where
   pub bytes : Text
   pub are_of : AreOf told bytes
   pub input : Input
   pub asked : read_source bytes ≡ Ok input
+  pub script : IsScript input.script
   pub events : List Event
   pub tells : TellsRun input.script input.schedule events text
 

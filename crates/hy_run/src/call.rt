@@ -166,6 +166,7 @@ fn tell_script<K: Sink>(alloc: Global, sink: &mut K, line: u32, why: Why) -> Sta
 // The line of an answer that has one, or that for memory.
 fn tell<K: Sink>(alloc: Global, sink: &mut K, status: Status) -> Status
     ensures status { (result ≡ status) ⊎ (result ≡ Status.Memory) }
+    ensures usage { status ≡ Status.Usage → result ≡ Status.Usage }
     ensures line { (text : Text) → fault_text result ≡ Some text → WritesLine (K.taken sink.old) (K.taken sink.new) (K.faults sink.old) (K.faults sink.new) text }
     ensures count { K.faults sink.old ≤ K.faults sink.new }
 {
@@ -221,8 +222,8 @@ pub fn hyder_call<S: Source, K: Sink>(
     ensures source { result.status ≡ Status.Source → Rose (S.faults source.old) (S.faults source.new) }
     ensures sink { result.status ≡ Status.Sink → Rose (K.faults sink.old) (K.faults sink.new) }
 
-    // When it must come, unless memory runs out: words first, then the source, the script, and the sink.
-    ensures usage_always { command_of words.now ≡ None → (result.status ≡ Status.Usage) ⊎ (result.status ≡ Status.Memory) }
+    // When it must come: words first, whose answer takes no memory; then, unless memory runs out, the source, the script, and the sink.
+    ensures usage_always { command_of words.now ≡ None → result.status ≡ Status.Usage }
     ensures script_always { command_of words.now ≡ Some Sim → IfSome (S.left source.old) (λ bytes. (n : ℕ) (why : Why) → read_source bytes ≡ Err (n, why)
         → (result.status ≡ Status.Script n why) ⊎ ((result.status ≡ Status.Memory) ⊎ Rose (S.faults source.old) (S.faults source.new))) }
     ensures fine_always { command_of words.now ≡ Some Sim → IfSome (S.left source.old) (λ bytes. (input : Input) → read_source bytes ≡ Ok input

@@ -61,8 +61,8 @@ fn call<S: Source, K: Sink>(alloc: Global, words: &Words, source: &mut S, sink: 
     ensures sink_part { exit_status result ≡ 4 → (text : Text) × IsOutput (S.left source.old) text × WritesPartOf (K.taken sink.old) (K.taken sink.new) text }
     ensures others { (exit_status result ≤ 4) ⊎ (exit_status result ≡ 9) }
 
-    // When it must come, unless memory runs out.
-    ensures usage_always { command_of words.now ≡ None → (exit_status result ≡ 1) ⊎ (exit_status result ≡ 9) }
+    // When it must come; 0 unless memory runs out.
+    ensures usage_always { command_of words.now ≡ None → exit_status result ≡ 1 }
     ensures fine_always { command_of words.now ≡ Some Sim → IfSome (S.left source.old) (λ bytes. (input : Input) → read_source bytes ≡ Ok input
         → (exit_status result ≡ 0) ⊎ ((exit_status result ≡ 9) ⊎ (Rose (S.faults source.old) (S.faults source.new) ⊎ Rose (K.faults sink.old) (K.faults sink.new)))) }
 

@@ -9,4 +9,5 @@ pub returns-in-Ok-clause-run : goal.returns-in-Ok-clause-run
 returns-in-Ok-clause-run c = λ bytes read.
     run_read bytes (input_of c.args.input.now) c.in-Ok.run'.events.items c.in-Ok.run'.results read
     (subst (λ schedule. first_disabled c.args.input.now.script (opening_of c.args.input.now.script []) schedule ≡ None) c.as_slice.ensures (c.in-Ok.ensures.enabled refl))
+    c.requires.script
     (subst (λ schedule. IsSimulation c.args.input.now.script schedule c.in-Ok.run'.events.items c.in-Ok.run'.results) c.as_slice.ensures c.in-Ok.ensures.done)
