@@ -17,6 +17,9 @@ pub mod Exec
 pub mod Moves
 pub mod Runs
 pub mod Texts
+pub mod Reading
+pub mod EntryFormat
+pub mod LogFormat
 pub mod Work
 pub mod CommandLine
 pub mod Laws

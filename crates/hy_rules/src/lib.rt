@@ -8,6 +8,7 @@
 #![tactic(auto)]
 
 mod answers;
+mod damage;
 mod effects;
 mod fold;
 mod group;
@@ -18,6 +19,7 @@ mod tail;
 mod tests;
 
 pub use answers::{each_program_is_answered, finished_log_is_whole, trace_is_one};
+pub use damage::{BadEntry, BadPage, Damage};
 pub use effects::{effects_are_in_order, leaves_a_transaction};
 pub use fold::{Folded, Verdicts, fold_on, folded_none, plain_fold};
 pub use laws::{
