@@ -1,0 +1,4 @@
+pub mod Images
+pub mod Moments
+pub mod Overwrites
+pub mod Seen

@@ -1,0 +1,69 @@
+-- Which calls of a device in memory fail.
+use Rattle.std.specs.Prelude.{◌≡◌, ℕ, ◌+◌, ◌-◌, ◌^◌, ◌<◌, min, Bool, false, ◌==◌, ◌||◌, nat_lt, nat_le, List, [], Option, Some, None, if◌then◌else◌}
+use Rattle.std.specs.List.{list_any}
+use Rattle.std.specs.Option.{option_map}
+
+-- Calls are numbered from 1. Those numbered in `fails` fail, and all after the number `passes`. Where one is armed it's the
+-- k-th write or sync from now on that fails, and every call after it; at 0 it has failed. So far `made` calls were made, and
+-- `faults` of them failed.
+pub record Plan : Type 0 where
+  pub fails : List ℕ
+  pub passes : Option ℕ
+  pub armed : Option ℕ
+  pub made : ℕ
+  pub faults : ℕ
+
+-- the plan before the first call
+abbrev pub fresh_plan : List ℕ → Option ℕ → Plan
+fresh_plan fails passes = record { fails = fails; passes = passes; armed = None; made = 0; faults = 0 }
+
+-- from now on no call fails by its number or by order
+abbrev pub cleared : Plan → Plan
+cleared plan = record plan { fails = []; passes = None; armed = None }
+
+-- one more, for a count that stops at the last value of a `u64`
+abbrev pub counted : ℕ → ℕ
+counted n = min (n + 1) (2 ^ 64 - 1)
+
+-- whether a call comes after the last one that passes
+abbrev pub is_past : ℕ → Option ℕ → Bool
+is_past call None = false
+is_past call (Some last) = nat_lt last call
+
+-- whether the armed failure comes at this write or sync from now on, or before it
+abbrev pub strikes_within : ℕ → Option ℕ → Bool
+strikes_within n None = false
+strikes_within n (Some at) = nat_le at n
+
+-- whether the next call fails by its number
+abbrev pub fails_by_number : Plan → Bool
+fails_by_number plan = list_any (λ call. call == counted plan.made) plan.fails || is_past (counted plan.made) plan.passes
+
+-- whether the next call fails, if it changes nothing, and if it is a write or a sync
+abbrev pub read_fails : Plan → Bool
+read_fails plan = fails_by_number plan || strikes_within 0 plan.armed
+
+abbrev pub change_fails : Plan → Bool
+change_fails plan = fails_by_number plan || strikes_within 1 plan.armed
+
+-- the plan after one more call, of each kind
+abbrev pub after_read : Plan → Bool → Plan
+after_read plan failed = record plan { made = counted plan.made; faults = if failed then counted plan.faults else plan.faults }
+
+abbrev pub after_change : Plan → Bool → Plan
+after_change plan failed = record (after_read plan failed) { armed = option_map (λ at. at - 1) plan.armed }
+
+-- no call fails by its number
+pub record IsSound (plan : Plan) : Type 0 where
+  pub fails : plan.fails ≡ []
+  pub passes : plan.passes ≡ None
+
+-- so many writes and syncs come before the one that is armed
+abbrev pub IsBefore : ℕ → Option ℕ → Type 0
+IsBefore k None = Unit {0}
+IsBefore k (Some at) = k < at
+
+-- what the armed one itself takes of the room
+abbrev pub spare : Option ℕ → ℕ
+spare None = 0
+spare (Some at) = 1

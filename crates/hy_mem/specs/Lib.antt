@@ -1,0 +1,9 @@
+pub mod Calls
+pub mod Changes
+pub mod History
+pub mod Laws
+pub mod MemDisk
+pub mod Reserved
+pub mod Room
+pub mod RoomLaws
+pub mod Store

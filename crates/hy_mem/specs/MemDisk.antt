@@ -1,0 +1,38 @@
+-- What a device in memory shows.
+use Rattle.std.specs.Prelude.{◌≡◌, ℕ, ◌+◌, ◌≤◌, List, length, Some}
+use Rattle.hy_disk.specs.Content.{Content}
+use Rattle.hy_mem.specs.declared.memory.MemDisk.{MemDisk}
+use Rattle.hy_mem.specs.declared.room.Room.{Room}
+use Rattle.hy_mem.specs.Calls.{Plan, IsSound, IsBefore, spare}
+use Rattle.hy_mem.specs.History.{LeftSince}
+
+-- what it holds
+abbrev pub content_of : MemDisk → Content
+content_of disk = disk.store.content
+
+-- its calls, and which of them fail
+abbrev pub plan_of : MemDisk → Plan
+plan_of disk = disk.calls
+
+-- how much it can still take
+abbrev pub room_of : MemDisk → Room
+room_of disk = disk.room
+
+-- how many events it has been through
+abbrev pub moment_of : MemDisk → ℕ
+moment_of disk = length disk.past.events
+
+-- what a crash since a moment might have left
+abbrev pub left_since_of : MemDisk → ℕ → List ℕ → Type 0
+left_since_of disk = LeftSince disk.past.first disk.past.events
+
+-- the k-th write or sync from now on is armed
+abbrev pub Strikes : MemDisk → ℕ → Type 0
+Strikes disk k = disk.calls.armed ≡ Some k
+
+-- So many writes and syncs, of so many bytes in all, don't fail, nor does a call between them.
+pub record HasRoom (disk : MemDisk) (k b : ℕ) : Type 0 where
+  pub sound : IsSound disk.calls
+  pub before : IsBefore k disk.calls.armed
+  pub calls : k + spare disk.calls.armed ≤ disk.room.calls
+  pub bytes : b ≤ disk.room.bytes
