@@ -1,11 +1,11 @@
 //! A device in memory.
-ghost use Rattle.std.specs.Prelude.{◌≡◌, ◌+◌, ◌-◌, ◌^◌, ◌<◌, ◌≤◌, ◌||◌, ℕ, [], length, min, true, not, Some, None, IsTrue, IsOk, IsErr, IfOk, OnOk, OnErr, is_err, is_ok, if◌then◌else◌};
+ghost use Rattle.std.specs.Prelude.{◌≡◌, ◌+◌, ◌-◌, ◌^◌, ◌<◌, ◌≤◌, ◌||◌, ℕ, [], length, min, true, not, Some, None, IfOk, OnOk, is_err, is_ok, if◌then◌else◌};
 ghost use Rattle.hy_base.specs.Faults.{HasCause};
-ghost use Rattle.hy_disk.specs.Content.{Image, settled, after_write, AfterFailedWrite, read_into};
+ghost use Rattle.hy_disk.specs.Content.{Image, settled, after_write, read_into};
 ghost use Rattle.hy_disk.specs.Moments.{Elapses};
 ghost use Rattle.hy_disk.specs.Stops.{stopped};
 ghost use Rattle.hy_disk.specs.Strikes.{IsUnarmed};
-ghost use Rattle.hy_mem.specs.Calls.{Plan, fresh_plan, cleared, read_fails, change_fails, after_read, after_change};
+ghost use Rattle.hy_mem.specs.Calls.{fresh_plan, cleared, read_fails, change_fails, after_read, after_change};
 ghost use Rattle.hy_mem.specs.History.{replay};
 ghost use Rattle.hy_mem.specs.Reserved.{IsReserved};
 ghost use Rattle.hy_mem.specs.Room.{is_room_for, room_after, widened};
@@ -17,7 +17,10 @@ use crate::store::Store;
 use hy_disk::{Disk, Failed, Tuned};
 use std::alloc::{AllocError, Global};
 
-/// A device in memory. It fails as planned, and past its room.
+/// A device in memory, whose calls fail as planned and past its room.
+///
+/// Contracts see what it holds, the plan of its calls, and its room. A write or a sync that is done takes one call of the
+/// room, and a write its bytes.
 #[derive(Drop)]
 pub struct MemDisk {
     store: Store,
@@ -29,7 +32,7 @@ pub struct MemDisk {
 }
 
 impl MemDisk {
-    ghost use Rattle.hy_mem.specs.MemDisk.{content_of, plan_of, room_of};
+    ghost use Rattle.hy_mem.specs.MemDisk.{content_of, plan_of, room_of, HasRoom, Strikes};
 
     /// A device with these bytes, all of them synced, and without room. The calls numbered in `fails`, from 1, fail. Want
     /// of memory is the one error.
@@ -37,6 +40,8 @@ impl MemDisk {
         ensures content { IfOk result (λ disk. content_of disk ≡ settled bytes.now) }
         ensures plan { IfOk result (λ disk. plan_of disk ≡ fresh_plan fails.now None) }
         ensures room { IfOk result (λ disk. room_of disk ≡ record { calls = 0; bytes = 0 }) }
+        ensures has_room { IfOk result (λ disk. fails.now ≡ [] → HasRoom disk 0 0) }
+        ensures unarmed { IfOk result (λ disk. IsUnarmed (Strikes disk)) }
     {
         MemDisk::planned(alloc, bytes, fails, None)
     }
@@ -85,6 +90,8 @@ impl MemDisk {
         ensures image { Image (content_of self) (content_of result).seen }
         ensures plan { plan_of result ≡ cleared (plan_of self) }
         ensures room { room_of result ≡ room_of self }
+        ensures has_room { (k b : ℕ) → k ≤ (room_of self).calls → b ≤ (room_of self).bytes → HasRoom result k b }
+        ensures unarmed { IsUnarmed (Strikes result) }
     {
         let MemDisk {
             mut store,
@@ -163,8 +170,7 @@ impl Disk for MemDisk {
         Ok(count)
     }
 
-    /// Fails exactly where the plan says so and where it finds no room. It is done where it finds room, also where it
-    /// fails.
+    /// Fails exactly where the plan says so and where it finds no room. Where it finds room it is done, also where it fails.
     fn write_at(&mut self, place: u64, bytes: &[u8]) -> Result<(), Failed>
         requires within { place ≤ length (content_of self.old).seen }
         requires fits { place + length bytes.now < 2 ^ 64 }
@@ -211,7 +217,7 @@ impl Disk for MemDisk {
 impl Tuned for MemDisk {
     ghost use Rattle.hy_mem.specs.MemDisk.{content_of, plan_of, room_of, moment_of, left_since_of, HasRoom, Strikes};
 
-    /// The room grows to exactly so much, where it was less.
+    /// The room grows to exactly so much, where it was less. Want of memory leaves it as it was.
     fn room(&mut self, bytes: usize, calls: usize) -> Result<(), AllocError>
         ensures room_left { room_of self.new ≡ (if is_ok result then widened calls bytes (room_of self.old) else room_of self.old) }
         ensures before { OnOk result ((k : ℕ) → Strikes self.old (k + 1) → HasRoom self.old 0 0 → HasRoom self.new (min (calls - 1) k) bytes) }
@@ -231,7 +237,7 @@ impl Tuned for MemDisk {
         Ok(())
     }
 
-    /// The room is as before, and what is done by number stays planned.
+    /// The calls that fail by their number stay planned.
     fn arm(&mut self, k: u64)
         ensures plan { plan_of self.new ≡ record (plan_of self.old) { armed = Some k } }
         ensures room_left { room_of self.new ≡ room_of self.old }

@@ -2,16 +2,16 @@
 use Rattle.std.proofs.Common.{◌≡◌, ◌≢◌, ℕ, ◌+◌, ◌-◌, ◌*◌, ◌<◌, ◌≤◌, false, List, [], ◌∷◌, ◌++◌, length, drop, Result, Ok, refl, sym, ap, ◌∙◌, subst, arith, inl, inr, append_assoc, append-nil, length-drop}
 use Rattle.std.specs.Prelude.{◌==◌, ◌||◌, nat_le, flat_map, Option, Some, None}
 use Rattle.std.proofs.lemmas.Bool.{and_parts, or_parts, cond-true, cond-false, leb-true, leb-false, eq-eqb, ne_eqb, cases_eq}
-use Rattle.std.proofs.lemmas.List.{drop_at}
+use Rattle.std.proofs.lemmas.List.{drop_at, drop_more, drop-drop}
 use Rattle.hy_base.specs.declared.layout.Shape.{Shape}
 use Rattle.hy_rules.specs.declared.damage.Damage.{Damage}
 use Rattle.hy_rules.specs.declared.damage.BadPage.{BadPage}
 use Rattle.hy_rules.specs.LogFormat.{page_count, IsBody, header_rest, header_page, record_rest, record_bytes, byte_at, header_in, stands_behind, is_unborn, records_in, log_in}
 use Rattle.hy_pages.specs.Words.{pages_in, log_front, IsFront, IsFrontier, IsRefused, IsTorn}
-use Rattle.hy_pages.specs.Laws.{LogIsRead, LogIsSpelled, GateDecides, GateBears, PageIsRefused}
+use Rattle.hy_pages.specs.Laws.{LogIsRead, LogIsSpelled, GateDecides, GateBears, PageIsRefused, ClosedLogIsRead, TornGateDecides}
 use Rattle.hy_pages.proofs.Headers.{header_is_read}
-use Rattle.hy_pages.proofs.Frontiers.{closed_is_frontier, torn_is_frontier}
-use Rattle.hy_pages.proofs.Fronts.{front_stands, front_is_split, front_grows, fewer_than_pages}
+use Rattle.hy_pages.proofs.Frontiers.{closed_is_frontier, torn_is_frontier, first_byte}
+use Rattle.hy_pages.proofs.Fronts.{front_stands, front_is_split, front_grows, fewer_than_pages, front_is_kept}
 use Rattle.hy_pages.proofs.Scans.{behind, records_read, step_end, step_refused}
 use Rattle.hy_pages.proofs.Births.{born, torn_is_unborn, unborn_holds_nothing, logged, header_goes_on}
 
@@ -36,6 +36,12 @@ log_is_read s bodies page bytes stands end =
     goes_on s bodies page bytes stands
     ∙ ap (λ (r : Result (List (List ℕ)) BadPage). logged s (behind bodies r)) (step_end (length bytes - length bodies) (s.cap - length bodies) page (drop (256 * page) bytes) end)
     ∙ ap (λ (l : List (List ℕ)). Ok (record { shape = Some s; bodies = l })) (append-nil bodies)
+
+pub closed_log_is_read : ClosedLogIsRead
+closed_log_is_read s bodies page bytes stands (inl byte) =
+    log_is_read s bodies page bytes stands (closed_is_frontier (s.cap - length bodies) (drop (256 * page) bytes) (inl (first_byte (256 * page) bytes ∙ byte)))
+closed_log_is_read s bodies page bytes stands (inr short) =
+    log_is_read s bodies page bytes stands (closed_is_frontier (s.cap - length bodies) (drop (256 * page) bytes) (inr (omega (arith, length-drop (256 * page) bytes, short))))
 
 -- a page that is refused has a byte
 refused_long : (places : ℕ) (rest : List ℕ) (why : Damage) → IsRefused places rest why → 1 ≤ length rest
@@ -91,6 +97,14 @@ gate_decides s bodies page gate bytes body more stands few is spelled = elim (ca
       decides_shut s bodies page gate bytes body more shut stands few is spelled
       ∙ ap (λ (l : List (List ℕ)). Ok (record { shape = Some s; bodies = l })) (sym (cond-false (gate == 71) (bodies ++ body ∷ []) bodies (ne_eqb gate 71 shut)))
 ]
+
+pub torn_gate_decides : TornGateDecides
+torn_gate_decides s bodies page bytes image torn stands longer front behind =
+    let at = 256 * page in
+    let kept : IsFront s bodies page image = front_is_kept s bodies page bytes image stands (omega (arith, longer)) front in
+    let rest : drop (at + 1) image ≡ record_rest torn.body ++ 0 ∷ torn.more = behind ∙ sym (drop-drop 1 at bytes) ∙ ap (drop 1) torn.spelled in
+    let whole : drop at image ≡ byte_at image at ∷ (record_rest torn.body ++ 0 ∷ torn.more) = drop_more image at 0 longer ∙ ap (λ (l : List ℕ). byte_at image at ∷ l) rest in
+    gate_decides s bodies page (byte_at image at) image torn.body torn.more kept (omega (arith, torn.placed)) torn.sound whole
 
 pub gate_bears : GateBears
 gate_bears s gate more good = elim (cases_eq gate 71) [

@@ -94,7 +94,7 @@ frontier_is_one places rest are is = elim (or_cases (nat_le (length rest) 1) ((b
 byte_behind : (at place : ℕ) (bytes : List ℕ) → byte_at (drop at bytes) place ≡ byte_at bytes (at + place)
 byte_behind at place bytes = get_or-drop at bytes place 0
 
-first_byte : (at : ℕ) (bytes : List ℕ) → byte_at (drop at bytes) 0 ≡ byte_at bytes at
+pub first_byte : (at : ℕ) (bytes : List ℕ) → byte_at (drop at bytes) 0 ≡ byte_at bytes at
 first_byte at bytes = let same : at + 0 ≡ at = omega arith in byte_behind at 0 bytes ∙ ap (byte_at bytes) same
 
 at_least : (at low n : ℕ) → 1 ≤ low → nat_le low (n - at) ≡ nat_le (at + low) n

@@ -5,8 +5,9 @@ use Rattle.std.specs.List.{AllByRecursion}
 use Rattle.hy_base.specs.declared.layout.Shape.{Shape}
 use Rattle.hy_base.specs.Shape.{IsGoodShape}
 use Rattle.hy_rules.specs.declared.damage.Damage.{Damage}
-use Rattle.hy_rules.specs.LogFormat.{page_count, IsBody, header_rest, header_page, record_rest, record_bytes, byte_at, header_in, record_in, is_open, may_be_frontier, is_unborn, log_in}
-use Rattle.hy_pages.specs.Words.{AreBytes, pages_in, log_front, record_by, BeginsRecord, IsFront, IsFrontier, IsRefused, IsTorn, IsTornHeader, IsTold}
+use Rattle.hy_rules.specs.declared.damage.BadPage.{BadPage}
+use Rattle.hy_rules.specs.LogFormat.{page_count, IsBody, header_rest, header_page, record_rest, record_bytes, byte_at, header_in, record_in, is_open, may_be_frontier, is_unborn, log_in, Held}
+use Rattle.hy_pages.specs.Words.{AreBytes, pages_in, log_front, record_by, BeginsRecord, IsFront, IsFrontier, IsRefused, IsTorn, IsTornHeader, IsBadHeader, IsBadRecord, IsTold}
 
 -- ---- headers
 
@@ -87,6 +88,10 @@ UnbornIsOne = (bytes : List ℕ) → AreBytes (take 256 bytes) → is_unborn byt
 abbrev pub UnbornHoldsNothing : Type 0
 UnbornHoldsNothing = (bytes : List ℕ) → is_unborn bytes ≡ true → log_in bytes ≡ Ok (record { shape = None; bodies = [] })
 
+-- and no other device does
+abbrev pub NothingIsUnborn : Type 0
+NothingIsUnborn = (bytes : List ℕ) (held : Held) → log_in bytes ≡ Ok held → held.shape ≡ None → (is_unborn bytes ≡ true) × (held.bodies ≡ [])
+
 -- behind the gate stand the rest of a header and a closed gate: the gate decides whether the log is born
 abbrev pub GateBears : Type 0
 GateBears = (s : Shape) (gate : ℕ) (more : List ℕ) → IsGoodShape s → log_in (gate ∷ (header_rest s ++ 0 ∷ more)) ≡ Ok (record { shape = if gate == 71 then Some s else None; bodies = [] })
@@ -144,10 +149,21 @@ abbrev pub LogIsSpelled : Type 0
 LogIsSpelled = (s : Shape) (bodies : List (List ℕ)) (tail : List ℕ) → IsGoodShape s → AllByRecursion IsBody bodies → length bodies ≤ s.cap → IsFrontier (s.cap - length bodies) tail
     → log_in (header_page s ++ (flat_map record_bytes bodies ++ tail)) ≡ Ok (record { shape = Some s; bodies = bodies })
 
+-- so is a front before a gate that is closed by its byte or stands at the device's end
+abbrev pub ClosedLogIsRead : Type 0
+ClosedLogIsRead = (s : Shape) (bodies : List (List ℕ)) (page : ℕ) (bytes : List ℕ) → IsFront s bodies page bytes → ((byte_at bytes (256 * page) ≡ 0) ⊎ (length bytes ≤ 256 * page + 1))
+    → log_in bytes ≡ Ok (record { shape = Some s; bodies = bodies })
+
 -- Behind the gate of a front stand the rest of a record and a closed gate: the gate decides whether the log holds its body.
 abbrev pub GateDecides : Type 0
 GateDecides = (s : Shape) (bodies : List (List ℕ)) (page gate : ℕ) (bytes body more : List ℕ) → IsFront s bodies page bytes → length bodies < s.cap → IsBody body
     → drop (256 * page) bytes ≡ gate ∷ (record_rest body ++ 0 ∷ more) → log_in bytes ≡ Ok (record { shape = Some s; bodies = if gate == 71 then bodies ++ body ∷ [] else bodies })
+
+-- so it is where only the gate's byte differs from that of a torn frontier
+abbrev pub TornGateDecides : Type 0
+TornGateDecides = (s : Shape) (bodies : List (List ℕ)) (page : ℕ) (bytes image : List ℕ) (torn : IsTorn (s.cap - length bodies) (drop (256 * page) bytes)) → IsFront s bodies page bytes
+    → 256 * page < length image → take (256 * page) image ≡ take (256 * page) bytes → drop (256 * page + 1) image ≡ drop (256 * page + 1) bytes
+    → log_in image ≡ Ok (record { shape = Some s; bodies = if byte_at image (256 * page) == 71 then bodies ++ torn.body ∷ [] else bodies })
 
 -- a page that is refused behind a front is the first one
 abbrev pub PageIsRefused : Type 0
@@ -166,6 +182,10 @@ LogIsTold = (bytes : List ℕ) → AreBytes bytes → IsTold bytes (log_in bytes
 abbrev pub LogIsOne : Type 0
 LogIsOne = (bytes : List ℕ) (s : Shape) (bodies : List (List ℕ)) → AreBytes bytes → log_in bytes ≡ Ok (record { shape = Some s; bodies = bodies })
     → IsFront s bodies (1 + pages_in bodies) bytes × IsFrontier (s.cap - length bodies) (drop (256 * (1 + pages_in bodies)) bytes)
+
+-- and a page is refused for what stands there
+abbrev pub RefusalIsFirst : Type 0
+RefusalIsFirst = (bytes : List ℕ) (bad : BadPage) → AreBytes bytes → log_in bytes ≡ Err bad → IsBadHeader bytes bad ⊎ IsBadRecord bytes bad
 
 -- parts of bytes are bytes
 abbrev pub PartsAreBytes : Type 0

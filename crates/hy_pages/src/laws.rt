@@ -1,5 +1,5 @@
 //! What the format comes to. Each law is the contract of a function that does nothing.
-ghost use Rattle.hy_pages.specs.Laws.{HeaderIsRead, HeaderIsOne, HeaderIsFirstPage, RecordIsRead, RecordIsOne, RecordsAreApart, ClosedIsFrontier, TornIsFrontier, FrontierIsOne, ClosedIsUnborn, TornIsUnborn, UnbornIsOne, UnbornHoldsNothing, GateBears, FrontStands, FrontIsSplit, FrontIsKept, FrontBegins, FrontGoesOn, FrontGrows, LogIsRead, LogIsSpelled, GateDecides, PageIsRefused, HeaderIsRefused, LogIsTold, LogIsOne, PartsAreBytes, RecordIsPieced, GateIsPieced, FrontierIsPieced, UnbornIsFront, PagesAdd, BodyStands};
+ghost use Rattle.hy_pages.specs.Laws.{HeaderIsRead, HeaderIsOne, HeaderIsFirstPage, RecordIsRead, RecordIsOne, RecordsAreApart, ClosedIsFrontier, TornIsFrontier, FrontierIsOne, ClosedIsUnborn, TornIsUnborn, UnbornIsOne, UnbornHoldsNothing, GateBears, FrontStands, FrontIsSplit, FrontIsKept, FrontBegins, FrontGoesOn, FrontGrows, LogIsRead, LogIsSpelled, GateDecides, PageIsRefused, HeaderIsRefused, LogIsTold, LogIsOne, PartsAreBytes, RecordIsPieced, GateIsPieced, FrontierIsPieced, UnbornIsFront, PagesAdd, BodyStands, NothingIsUnborn, ClosedLogIsRead, TornGateDecides, RefusalIsFirst};
 
 /// A header is read back, whatever follows it.
 pub fn header_is_read()
@@ -169,4 +169,24 @@ pub fn pages_add()
 /// In a front the record of a body begins behind those before it: there stand the length of the body, and the body.
 pub fn body_stands()
     ensures { BodyStands }
+{}
+
+/// No other device holds no shape.
+pub fn nothing_is_unborn()
+    ensures { NothingIsUnborn }
+{}
+
+/// A front before a closed gate is read back.
+pub fn closed_log_is_read()
+    ensures { ClosedLogIsRead }
+{}
+
+/// Where only the gate's byte differs from that of a torn frontier, that byte decides.
+pub fn torn_gate_decides()
+    ensures { TornGateDecides }
+{}
+
+/// A page is refused for what stands there, behind a header and whole records.
+pub fn refusal_is_first()
+    ensures { RefusalIsFirst }
 {}
