@@ -1,5 +1,5 @@
 //! From an entry to bytes.
-ghost use Rattle.std.specs.Prelude.{◌≡◌, ◌++◌, ◌<◌, ◌^◌, flat_map, All, IfSome, OnOk, IfOk};
+ghost use Rattle.std.specs.Prelude.{◌≡◌, ◌++◌, ◌<◌, ◌≤◌, ◌^◌, length, flat_map, All, IfSome, OnOk, IfOk};
 ghost use Rattle.std.specs.Int.{w16, w32, w64, to_le_bytes};
 ghost use Rattle.hy_base.specs.Value.{IsValue};
 ghost use Rattle.hy_base.specs.Entry.{IsTransaction, IsEntry, IsInField, IsSpellable};
@@ -145,6 +145,7 @@ fn push_entry(out: &mut Vec<u8>, entry: &Entry) -> Result<(), AllocError>
 pub fn encode(alloc: Global, entry: &Entry) -> Result<Vec<u8>, AllocError>
     ensures bytes { IfOk result (λ bytes. bytes.items ≡ spelling entry.now) }
     ensures body { IfOk result (λ bytes. IsBody bytes.items) }
+    ensures least { IfOk result (λ bytes. 10 ≤ length bytes.items) }
     ensures fits { IfOk result (λ _. IsSpellable entry.now) }
 {
     let mut out = Vec::new(alloc);

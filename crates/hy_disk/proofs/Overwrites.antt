@@ -20,7 +20,13 @@ overwritten_outside old place bytes i within (inr above) =
     let back : end + (i - end) ≡ i = omega arith in
     get_or-append_right (take place old ++ bytes) (drop end old) end i 0 size above ∙ get_or-drop end old (i - end) 0 ∙ ap (λ (k : ℕ). get_or old k 0) back
 
--- and lengthens as far as it goes past the end
+-- a byte inside of its range is the one that was written
+pub overwritten_inside : (old : List ℕ) (place : ℕ) (bytes : List ℕ) (i : ℕ) → place ≤ length old → place ≤ i → i < place + length bytes → get_or (overwritten old place bytes) i 0 ≡ get_or bytes (i - place) 0
+overwritten_inside old place bytes i within above below =
+    let front : length (take place old) ≡ place = omega (arith, length-take place old) in
+    get_or_append_left (take place old ++ bytes) (drop (place + length bytes) old) 0 i (omega (arith, length-append (take place old) bytes)) ∙ get_or-append_right (take place old) bytes place i 0 front above
+
+-- it lengthens as far as it goes past the end
 pub length-overwritten_within : (old : List ℕ) (place : ℕ) (bytes : List ℕ) → place ≤ length old → length (overwritten old place bytes) ≡ max (length old) (place + length bytes)
 length-overwritten_within old place bytes within =
     omega (arith, length-append (take place old ++ bytes) (drop (place + length bytes) old), length-append (take place old) bytes, length-take place old, length-drop (place + length bytes) old)

@@ -54,8 +54,8 @@ impl<C: Content> Model for HistLock<C> {
     ghost invariant = { λ l. (l.table.shared.table_id.words ≡ 2) × (l.table.shared.table_id.slots ≡ 1) };
 }
 
-/// What one thread needs to use a lock: a pass of it. A contract sees what the pass has seen of the list, what it made,
-/// how many parts it has, whether it holds the content, and whether it carries what is out.
+/// The right to use a lock, and what its owner knows of it: a beginning of the list, the items of it that it made, how many
+/// parts it has, whether it holds the content, and whether it carries what is out. It takes no bytes.
 #[derive(Drop)]
 pub struct Pass<C: Content> {
     seat: Seat<Option<C>, View<C::Item>>,
@@ -111,8 +111,8 @@ impl<C: Content> HistLock<C> {
         }
     }
 
-    /// Waits for the turn, and takes the content. Its list begins with all that the pass had seen, and is just that where
-    /// the pass has all parts. To a pass that carries the same part is out.
+    /// Waits for the turn, perhaps for ever, and takes the content. Its list begins with all that the pass had seen, and is
+    /// just that where the pass has all parts. What the pass carries is still out, and the same.
     pub fn hold<R: Wait>(&self, rt: &R, pass: &mut Pass<C>) -> C
         requires lock { pass.old.lock ≡ self.now.name }
         requires idle { pass.old.holds ≡ false }
@@ -127,9 +127,9 @@ impl<C: Content> HistLock<C> {
         turn::take::<C, Brand, R>(rt, &self.table.shared, &mut pass.seat)
     }
 
-    /// Gives the content back and ends the turn. The list goes on from the one that was taken, with fewer than 2^64 items.
-    /// The pass made what stands at the place `mine` of it, which may be an item that another turn added.
-    /// What is out with another pass stays out, and the same.
+    /// Gives the content back and ends the turn. Its list goes on from the one that was taken, and has fewer than 2^64 items.
+    /// The pass has then made the item at the place `mine` of it, counted from 0, which may also be one that another pass
+    /// added for it. What another pass carries stays out, and the same.
     pub fn give(&self, pass: &mut Pass<C>, content: C, mine: Option<u64>)
         requires lock { pass.old.lock ≡ self.now.name }
         requires holds { pass.old.holds ≡ true }

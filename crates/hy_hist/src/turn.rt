@@ -60,6 +60,7 @@ pub fn put<C: Content, N: Mine>(
     ensures table { seat.new.table_id ≡ seat.old.table_id }
     ensures view { seat.new.me ≡ (idle_view (counted_view C.out mine seat.old.me.0 (C.items content)), []) }
 {
+    // It is for the proof alone: the step is told it by its type.
     let _ = mine;
     let count = content.count();
     // A step on a word sees the seat alone: so the content is in the slot before its list is counted.
@@ -82,6 +83,7 @@ pub fn cut<C: Content, N: Portion>(
     ensures kept { (seat.new.table_id ≡ seat.old.table_id) × (seat.new.me ≡ (kept_view parts seat.old.me.0, seat.old.me.1)) }
     ensures given { (result.table_id ≡ seat.old.table_id) × (result.me ≡ (cut_view parts seat.old.me.0, [])) }
 {
+    // It is for the proof alone, as above.
     let _ = parts;
     table.split_seat::<Cut<N>>(seat)
 }

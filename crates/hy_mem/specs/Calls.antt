@@ -3,9 +3,9 @@ use Rattle.std.specs.Prelude.{◌≡◌, ℕ, ◌+◌, ◌-◌, ◌^◌, ◌<◌
 use Rattle.std.specs.List.{list_any}
 use Rattle.std.specs.Option.{option_map}
 
--- Calls are numbered from 1. Those numbered in `fails` fail, and all after the number `passes`. Where one is armed it's the
--- k-th write or sync from now on that fails, and every call after it; at 0 it has failed. So far `made` calls were made, and
--- `faults` of them failed.
+-- Calls are numbered from 1. Those numbered in `fails` fail, and all after the number `passes`, where there is one. Where
+-- `armed` is k the k-th write or sync from now on fails, and every call after it; at 0 it has failed. So far `made` calls were
+-- made, and `faults` of them failed.
 pub record Plan : Type 0 where
   pub fails : List ℕ
   pub passes : Option ℕ
@@ -39,17 +39,19 @@ strikes_within n (Some at) = nat_le at n
 abbrev pub fails_by_number : Plan → Bool
 fails_by_number plan = list_any (λ call. call == counted plan.made) plan.fails || is_past (counted plan.made) plan.passes
 
--- whether the next call fails, if it changes nothing, and if it is a write or a sync
+-- whether the next call fails, if it changes nothing
 abbrev pub read_fails : Plan → Bool
 read_fails plan = fails_by_number plan || strikes_within 0 plan.armed
 
+-- whether the next call fails, if it is a write or a sync
 abbrev pub change_fails : Plan → Bool
 change_fails plan = fails_by_number plan || strikes_within 1 plan.armed
 
--- the plan after one more call, of each kind
+-- the plan after one more call that changes nothing
 abbrev pub after_read : Plan → Bool → Plan
 after_read plan failed = record plan { made = counted plan.made; faults = if failed then counted plan.faults else plan.faults }
 
+-- the plan after one more write or sync
 abbrev pub after_change : Plan → Bool → Plan
 after_change plan failed = record (after_read plan failed) { armed = option_map (λ at. at - 1) plan.armed }
 

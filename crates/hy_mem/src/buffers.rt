@@ -1,5 +1,5 @@
 //! Changes to buffers of bytes, none of which takes memory but [`reserve_to`].
-ghost use Rattle.std.specs.Prelude.{◌≡◌, ◌⊎◌, ◌+◌, ◌-◌, ◌<◌, ◌≤◌, ℕ, length, min, max, replicate, slice_index, OnOk, vec_capacity};
+ghost use Rattle.std.specs.Prelude.{◌≡◌, ◌+◌, ◌-◌, ◌≤◌, length, take, drop, min, max, replicate, OnOk, vec_capacity};
 ghost use Rattle.hy_disk.specs.Content.{Image, overwritten};
 ghost use Rattle.hy_disk.specs.Stops.{scorched};
 
@@ -59,8 +59,7 @@ pub fn refresh(bytes: &mut Vec<u8>, from: &[u8], ranges: &[(usize, usize)])
 /// Copies a range from another buffer, as far as it goes.
 fn copy_range(bytes: &mut Vec<u8>, from: &[u8], place: usize, count: usize)
     requires { length bytes.old.items ≡ length from.now }
-    ensures inside { (i : ℕ) → place ≤ i → i < place + count → slice_index bytes.new.items i ≡ slice_index from.now i }
-    ensures outside { (i : ℕ) → (i < place) ⊎ (place + count ≤ i) → slice_index bytes.new.items i ≡ slice_index bytes.old.items i }
+    ensures copied { bytes.new.items ≡ overwritten bytes.old.items place (take (min count (length from.now - place)) (drop place from.now)) }
     ensures len { length bytes.new.items ≡ length bytes.old.items }
     ensures capacity { vec_capacity bytes.new ≡ vec_capacity bytes.old }
 {

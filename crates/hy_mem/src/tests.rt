@@ -1,9 +1,7 @@
 //! Each way to fail is tried on the same calls, with answers and bytes counted by hand.
-ghost use Rattle.std.specs.Prelude.{◌≤◌};
-
 use super::*;
 use hy_disk::{Disk, Failed, Tuned};
-use std::alloc::Global;
+use std::alloc::{AllocError, Global};
 use std::process::Abort;
 use std::test::Fail;
 
@@ -23,11 +21,21 @@ fn planned(alloc: Global, plan: Plan) -> Result<MemDisk, Fail> {
         Plan::Fuse(calls) => MemDisk::fused(alloc, FIRST, calls)?,
         Plan::Arm(_) => MemDisk::new(alloc, FIRST, &[])?,
     };
+    let k = match plan {
+        Plan::Arm(k) => Some(k),
+        _ => None,
+    };
+    tune(&mut disk, k)?;
+    Ok(disk)
+}
+
+/// Gives room for four calls and three bytes, and arms a failure if there is one.
+fn tune<D: Tuned>(disk: &mut D, armed: Option<u64>) -> Result<(), AllocError> {
     disk.room(3, 4)?;
-    if let Plan::Arm(k) = plan {
+    if let Some(k) = armed {
         disk.arm(k.max(1));
     }
-    Ok(disk)
+    Ok(())
 }
 
 /// Makes two reads, two writes, each with a sync, and a read, and says which of them passed.
@@ -37,22 +45,19 @@ fn seven_calls(disk: &mut MemDisk) -> [bool; 7] {
     let read = disk.read(1, &mut into);
     let write = disk.write_at(0, b"x");
     let sync = disk.sync();
-    let end = disk.bytes().len() as u64;
-    let mut passed = [
+    let end = disk.bytes().len().min(9) as u64;
+    let write_on = disk.write_at(end, b"yz");
+    let sync_on = disk.sync();
+    let len_on = disk.len();
+    [
         len.is_ok(),
         read.is_ok(),
         write.is_ok(),
         sync.is_ok(),
-        false,
-        false,
-        false,
-    ];
-    if end < 9 {
-        passed[4] = disk.write_at(end, b"yz").is_ok();
-        passed[5] = disk.sync().is_ok();
-        passed[6] = disk.len().is_ok();
-    }
-    passed
+        write_on.is_ok(),
+        sync_on.is_ok(),
+        len_on.is_ok(),
+    ]
 }
 
 #[test]
@@ -103,10 +108,8 @@ fn written(alloc: Global) -> Result<MemDisk, Fail> {
     disk.write_at(0, b"xy")?;
     disk.sync()?;
     disk.write_at(0, b"z")?;
-    let end = disk.bytes().len() as u64;
-    if end < 9 {
-        disk.write_at(end, b"123")?;
-    }
+    let end = disk.bytes().len().min(9) as u64;
+    disk.write_at(end, b"123")?;
     Ok(disk)
 }
 
@@ -144,6 +147,16 @@ fn past_its_room_a_call_fails(rt: HostRuntime) -> Result<(), Fail> {
     Ok(())
 }
 
+/// The bytes that a read puts in front of a buffer.
+fn read_front<'a, D: Disk>(
+    disk: &mut D,
+    place: u64,
+    into: &'a mut [u8],
+) -> Result<&'a [u8], Failed> {
+    let count = disk.read(place, into)?;
+    Ok(&into[..count])
+}
+
 #[test]
 fn a_read_ends_with_the_device(rt: HostRuntime) -> Result<(), Fail> {
     let rows: [(u64, usize, &[u8]); 6] = [
@@ -158,10 +171,7 @@ fn a_read_ends_with_the_device(rt: HostRuntime) -> Result<(), Fail> {
     let mut into = [0; 9];
     for (place, asked, want) in rows {
         assert!(rt; asked <= 9);
-        let count = disk.read(place, &mut into[..asked])?;
-        assert_eq!(rt; count, want.len());
-        assert!(rt; count <= 9);
-        assert_eq!(rt; &into[..count], want);
+        assert_eq!(rt; read_front(&mut disk, place, &mut into[..asked])?, want);
     }
     Ok(())
 }
