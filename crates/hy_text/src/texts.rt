@@ -8,8 +8,7 @@ ghost use Rattle.hy_rules.specs.Texts.{abort_words, answer_text, client_text, me
 ghost use Rattle.hy_text.specs.Words.{spaced, word_text};
 
 use hy_base::{
-    Answer, Clash, Event, Outcome, Pair, Pos, Replies, Reply, Results, Row, ServerRows, Value,
-    Verdict,
+    Answer, Clash, Event, Outcome, Pair, Replies, Reply, Results, Row, ServerRows, Value, Verdict,
 };
 use itoa::Buffer;
 use std::alloc::{AllocError, Global};
@@ -46,7 +45,11 @@ fn put_words(out: &mut Vec<u8>, words: &[Word<'_>]) -> Result<(), AllocError>
 
 // Adds a line, by its first word and the others.
 #[tactic(auto, using(crate::proofs::Lines::line_is))]
-fn put_line(out: &mut Vec<u8>, first: &[u8], words: &[Word<'_>]) -> Result<(), AllocError>
+pub(crate) fn put_line(
+    out: &mut Vec<u8>,
+    first: &[u8],
+    words: &[Word<'_>],
+) -> Result<(), AllocError>
     ensures { OnOk result (out.new.items ≡ out.old.items ++ line (first.now ∷ map word_text words.now)) }
 {
     out.extend_from_slice(first)?;
@@ -142,11 +145,11 @@ fn put_answers(out: &mut Vec<u8>, answers: &[Answer]) -> Result<(), AllocError>
 }
 
 // The outcome of a program that aborted, and against which write.
-fn put_abort(out: &mut Vec<u8>, pos: Pos, why: &[u8], clash: Clash) -> Result<(), AllocError>
+fn put_abort(out: &mut Vec<u8>, pos: u64, why: &[u8], clash: Clash) -> Result<(), AllocError>
     ensures { OnOk result (out.new.items ≡ out.old.items ++ line (codes "at" ∷ decimal pos ∷ abort_words why.now clash)) }
 {
     let words = [
-        Word::Number(pos as u64),
+        Word::Number(pos),
         Word::Plain(b"abort"),
         Word::Plain(why),
         Word::Number(clash.key),
@@ -156,12 +159,12 @@ fn put_abort(out: &mut Vec<u8>, pos: Pos, why: &[u8], clash: Clash) -> Result<()
     put_line(out, b"at", &words)
 }
 
-fn put_verdict(out: &mut Vec<u8>, pos: Pos, verdict: Verdict) -> Result<(), AllocError>
+pub(crate) fn put_verdict(out: &mut Vec<u8>, pos: u64, verdict: Verdict) -> Result<(), AllocError>
     ensures { OnOk result (out.new.items ≡ out.old.items ++ line (codes "at" ∷ decimal pos ∷ verdict_words verdict)) }
 {
     match verdict {
         Verdict::Commit => {
-            let words = [Word::Number(pos as u64), Word::Plain(b"commit")];
+            let words = [Word::Number(pos), Word::Plain(b"commit")];
             put_line(out, b"at", &words)
         }
         Verdict::Pre(clash) => put_abort(out, pos, b"pre", clash),
@@ -175,7 +178,7 @@ fn put_outcome(out: &mut Vec<u8>, outcome: Outcome) -> Result<(), AllocError>
 {
     match outcome {
         Outcome::Read { snap } => put_line(out, b"read", &[Word::Number(snap as u64)]),
-        Outcome::At { pos, verdict } => put_verdict(out, pos, verdict),
+        Outcome::At { pos, verdict } => put_verdict(out, pos as u64, verdict),
         Outcome::Full => put_line(out, b"full", &[]),
         Outcome::Lost => put_line(out, b"lost", &[]),
     }
@@ -233,7 +236,7 @@ fn put_row(out: &mut Vec<u8>, row: &Row) -> Result<(), AllocError>
     put_line(out, b"row", &words)
 }
 
-fn put_rows(out: &mut Vec<u8>, rows: &[Row]) -> Result<(), AllocError>
+pub(crate) fn put_rows(out: &mut Vec<u8>, rows: &[Row]) -> Result<(), AllocError>
     ensures { OnOk result (out.new.items ≡ out.old.items ++ flat_map row_text rows.now) }
 {
     for row in rows {

@@ -1,0 +1,3 @@
+pub use Rattle.hy_base.specs.Faults
+pub use Rattle.hy_disk.specs.Content
+pub mod Files

@@ -1,0 +1,207 @@
+//! The texts on a log: its dump, what became of its entries, and the one line where the log or its device failed.
+//!
+//! Each `put` function adds its text to what was written before. Where memory is wanting, a part of it may have been added.
+ghost use Rattle.std.specs.Prelude.{◌≡◌, ◌∷◌, ◌+◌, ◌-◌, ◌++◌, [], length, codes, decimal, flat_map, IfOk, OnOk};
+ghost use Rattle.std.specs.List.{enumerate_from};
+ghost use Rattle.hy_base.specs.Spelling.{line};
+ghost use Rattle.hy_rules.specs.Texts.{check_text, device_fault_text, dump_text, entry_fault_text, entry_text, judged_text, page_fault_text, row_text, waiting_text};
+
+use crate::texts::{Word, put_line, put_rows, put_verdict};
+use hy_base::{Entry, EntryKind, Intention, Pos, Row, Shape, Verdict};
+use std::alloc::{AllocError, Global};
+
+fn put_filler(out: &mut Vec<u8>, pos: u64, server: u8) -> Result<(), AllocError>
+    ensures { OnOk result (out.new.items ≡ out.old.items ++ entry_text (pos, EntryKind.Filler server)) }
+{
+    let words = [
+        Word::Number(pos),
+        Word::Plain(b"server"),
+        Word::Number(server as u64),
+        Word::Plain(b"filler"),
+    ];
+    put_line(out, b"entry", &words)
+}
+
+fn put_transaction(out: &mut Vec<u8>, pos: u64, intention: &Intention) -> Result<(), AllocError>
+    ensures { OnOk result (out.new.items ≡ out.old.items ++ entry_text (pos, EntryKind.Txn intention.now)) }
+{
+    let words = [
+        Word::Number(pos),
+        Word::Plain(b"server"),
+        Word::Number(intention.server as u64),
+        Word::Plain(b"client"),
+        Word::Number(intention.client as u64),
+        Word::Plain(b"snap"),
+        Word::Number(intention.snap as u64),
+        Word::Plain(b"points"),
+        Word::Number(intention.points.len() as u64),
+        Word::Plain(b"spans"),
+        Word::Number(intention.spans.len() as u64),
+        Word::Plain(b"writes"),
+        Word::Number(intention.writes.len() as u64),
+    ];
+    put_line(out, b"entry", &words)
+}
+
+fn put_entry(out: &mut Vec<u8>, pos: u64, entry: &Entry) -> Result<(), AllocError>
+    ensures { OnOk result (out.new.items ≡ out.old.items ++ entry_text (pos, entry.now)) }
+{
+    match entry.kind() {
+        EntryKind::Filler { server } => put_filler(out, pos, *server),
+        EntryKind::Txn(intention) => put_transaction(out, pos, intention),
+    }
+}
+
+// The entries, from position 1 on.
+fn put_entries(out: &mut Vec<u8>, entries: &[Entry]) -> Result<(), AllocError>
+    ensures { OnOk result (out.new.items ≡ out.old.items ++ flat_map entry_text (enumerate_from 1 entries.now)) }
+{
+    for (at, entry) in entries.iter().enumerate() {
+        put_entry(out, at as u64 + 1, entry)?;
+    }
+    Ok(())
+}
+
+// How the log is cut, and how many entries it has.
+fn put_header(out: &mut Vec<u8>, shape: Shape, count: usize) -> Result<(), AllocError>
+    ensures { OnOk result (out.new.items ≡ out.old.items ++ line (codes "log" ∷ codes "group" ∷ decimal shape.group ∷ codes "window" ∷ decimal shape.window ∷ codes "cap" ∷ decimal shape.cap ∷ codes "entries" ∷ decimal count ∷ [])) }
+{
+    let words = [
+        Word::Plain(b"group"),
+        Word::Number(shape.group as u64),
+        Word::Plain(b"window"),
+        Word::Number(shape.window as u64),
+        Word::Plain(b"cap"),
+        Word::Number(shape.cap as u64),
+        Word::Plain(b"entries"),
+        Word::Number(count as u64),
+    ];
+    put_line(out, b"log", &words)
+}
+
+/// The text of a log: its shape, and each entry in its line, from position 1 on. Where there is no shape, the device has
+/// no header, and the text is `empty`.
+pub fn write_dump(
+    alloc: Global,
+    shape: Option<Shape>,
+    entries: &[Entry],
+) -> Result<Vec<u8>, AllocError>
+    ensures { IfOk result (λ text. text.items ≡ dump_text shape entries.now) }
+{
+    let mut out = Vec::new(alloc);
+    match shape {
+        None => put_line(&mut out, b"empty", &[])?,
+        Some(shape) => {
+            put_header(&mut out, shape, entries.len())?;
+            put_entries(&mut out, entries)?;
+        }
+    }
+    Ok(out)
+}
+
+// What became of an entry. A filler has no verdict.
+fn put_judged(out: &mut Vec<u8>, pos: u64, verdict: Option<Verdict>) -> Result<(), AllocError>
+    ensures { OnOk result (out.new.items ≡ out.old.items ++ judged_text (pos, verdict)) }
+{
+    match verdict {
+        Some(verdict) => put_verdict(out, pos, verdict),
+        None => {
+            let words = [Word::Number(pos), Word::Plain(b"filler")];
+            put_line(out, b"at", &words)
+        }
+    }
+}
+
+// What became of the entries of whole groups, from position 1 on.
+fn put_all_judged(out: &mut Vec<u8>, verdicts: &[Option<Verdict>]) -> Result<(), AllocError>
+    ensures { OnOk result (out.new.items ≡ out.old.items ++ flat_map judged_text (enumerate_from 1 verdicts.now)) }
+{
+    for (at, verdict) in verdicts.iter().enumerate() {
+        put_judged(out, at as u64 + 1, *verdict)?;
+    }
+    Ok(())
+}
+
+fn put_wait(out: &mut Vec<u8>, pos: u64) -> Result<(), AllocError>
+    ensures { OnOk result (out.new.items ≡ out.old.items ++ line (codes "at" ∷ decimal pos ∷ codes "waits" ∷ [])) }
+{
+    let words = [Word::Number(pos), Word::Plain(b"waits")];
+    put_line(out, b"at", &words)
+}
+
+// The positions past the judged ones, whose group isn't whole.
+#[tactic(auto, using(crate::proofs::Waits::waits_go_on))]
+fn put_waits(out: &mut Vec<u8>, judged: usize, count: usize) -> Result<(), AllocError>
+    ensures { OnOk result (out.new.items ≡ out.old.items ++ waiting_text judged (count - judged)) }
+{
+    for at in judged..count {
+        put_wait(out, at as u64 + 1)?;
+    }
+    Ok(())
+}
+
+// The live rows, the position that they stand at, and how many they are.
+fn put_state(out: &mut Vec<u8>, judged: usize, live: &[Row]) -> Result<(), AllocError>
+    ensures { OnOk result (out.new.items ≡ out.old.items ++ (line (codes "state" ∷ decimal judged ∷ codes "rows" ∷ decimal (length live.now) ∷ []) ++ flat_map row_text live.now)) }
+{
+    let words = [
+        Word::Number(judged as u64),
+        Word::Plain(b"rows"),
+        Word::Number(live.len() as u64),
+    ];
+    put_line(out, b"state", &words)?;
+    put_rows(out, live)
+}
+
+/// The text of a judged log of `count` entries: what became of each, from position 1 on, and the live rows that the
+/// judged ones leave. Those past the last verdict wait for their group. Where there is no shape, the device has no
+/// header, and the text is `empty`.
+pub fn write_check(
+    alloc: Global,
+    shape: Option<Shape>,
+    count: usize,
+    verdicts: &[Option<Verdict>],
+    live: &[Row],
+) -> Result<Vec<u8>, AllocError>
+    ensures { IfOk result (λ text. text.items ≡ check_text shape count verdicts.now live.now) }
+{
+    let mut out = Vec::new(alloc);
+    if shape.is_none() {
+        put_line(&mut out, b"empty", &[])?;
+        return Ok(out);
+    }
+    put_all_judged(&mut out, verdicts)?;
+    put_waits(&mut out, verdicts.len(), count)?;
+    put_state(&mut out, verdicts.len(), live)?;
+    Ok(out)
+}
+
+/// The line for a device that failed, by its name.
+pub fn device_line(alloc: Global, device: &str) -> Result<Vec<u8>, AllocError>
+    ensures { IfOk result (λ text. text.items ≡ device_fault_text device.now) }
+{
+    let mut out = Vec::new(alloc);
+    let words = [Word::Plain(device.as_bytes())];
+    put_line(&mut out, b"hyder: device", &words)?;
+    Ok(out)
+}
+
+/// The line for a log with a page that is refused: which page, from 0 on, and why.
+pub fn page_line(alloc: Global, page: u64, why: &str) -> Result<Vec<u8>, AllocError>
+    ensures { IfOk result (λ text. text.items ≡ page_fault_text page why.now) }
+{
+    let mut out = Vec::new(alloc);
+    let words = [Word::Number(page), Word::Plain(why.as_bytes())];
+    put_line(&mut out, b"hyder: log page", &words)?;
+    Ok(out)
+}
+
+/// The line for a log with an entry that is refused: its position, and why.
+pub fn entry_line(alloc: Global, pos: Pos, why: &str) -> Result<Vec<u8>, AllocError>
+    ensures { IfOk result (λ text. text.items ≡ entry_fault_text pos why.now) }
+{
+    let mut out = Vec::new(alloc);
+    let words = [Word::Number(pos as u64), Word::Plain(why.as_bytes())];
+    put_line(&mut out, b"hyder: log entry", &words)?;
+    Ok(out)
+}
