@@ -23,8 +23,8 @@ pub use faults::Failed;
 pub use items::Items;
 pub use layout::{BadShape, Field, Shape};
 pub use record::{
-    BadValue, Clash, Entry, EntryKind, Intention, Mark, Member, Points, Row, Rows, Span, Spans,
-    Value, Verdict, Write, Writes,
+    Clash, Entry, EntryKind, Intention, Mark, Member, Points, Row, Rows, Span, Spans, Value,
+    ValueError, Verdict, Write, Writes,
 };
 pub use report::{Answer, Answers, Outcome, Pair, Pairs, Replies, Reply, Results, ServerRows};
 pub use shared::Shared;

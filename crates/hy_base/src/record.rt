@@ -1,20 +1,20 @@
 //! What stands in the log, how it is judged, and the rows that it leaves.
-ghost use Rattle.std.specs.Prelude.{◌≡◌, ℕ, ◌<◌, ◌≤◌, IfOk, IfErr, IsErrOf, IsTrue, length};
+ghost use Rattle.std.specs.Prelude.{◌≡◌, ℕ, ◌<◌, ◌≤◌, ◌↔◌, IfOk, IfErr, IsErrOf, IsTrue, Err, length};
 ghost use Rattle.std.specs.List.{list_all};
 ghost use Rattle.hy_base.specs.Value.{IsValue, is_printable, is_value};
 ghost use Rattle.hy_base.specs.Shape.{IsWithin};
 ghost use Rattle.hy_base.specs.Entry.{IsEntry, IsTransaction};
 ghost use Rattle.hy_base.specs.declared.record.EntryKind.TheVariants.{Filler, Txn};
 
-use crate::{Items, Key, Pos};
+use crate::{Items, Key, Pos, Shared};
 use std::alloc::{AllocError, Global};
 use std::marker::Model;
 use thiserror::Error;
 
-/// A value of the store: 1 to 256 bytes, each from 33 to 126.
+/// A value of the store: 1 to 256 bytes, each from 33 to 126. A clone shares the bytes.
 #[derive(Debug, Drop)]
 pub struct Value {
-    bytes: Vec<u8>,
+    bytes: Shared<Vec<u8>>,
 }
 
 impl Model for Value {
@@ -46,21 +46,30 @@ fn is_value(bytes: &[u8]) -> bool
     1 <= bytes.len() && bytes.len() <= 256 && all_printable(bytes)
 }
 
-/// The bytes are no value: fewer than 1, more than 256, or one of them isn't printable (33 to 126).
+/// Why bytes become no value.
 #[derive(Clone, Copy, Debug, PartialEq, Eq, Error)]
-#[error("a value has 1 to 256 bytes, each from 33 to 126")]
-pub struct BadValue;
+pub enum ValueError {
+    /// They are fewer than 1, more than 256, or one of them isn't printable (33 to 126).
+    #[error("a value has 1 to 256 bytes, each from 33 to 126")]
+    BadValue,
+    /// There was no memory to share them.
+    #[error("out of memory")]
+    Memory,
+}
 
 impl Value {
     /// The value with these bytes. `BadValue` exactly where they are none.
-    pub fn new(bytes: Vec<u8>) -> Result<Value, BadValue>
+    pub fn new(bytes: Vec<u8>) -> Result<Value, ValueError>
         ensures ok { IfOk result (λ value. (value ≡ bytes.items) × IsValue bytes.items) }
-        ensures err { IfErr result (λ _. IsValue bytes.items → ⊥) }
+        ensures bad { result ≡ Err ValueError.BadValue ↔ (IsValue bytes.items → ⊥) }
     {
-        if is_value(&bytes) {
-            Ok(Value { bytes })
-        } else {
-            Err(BadValue)
+        if !is_value(&bytes) {
+            return Err(ValueError::BadValue);
+        }
+        let alloc = *bytes.allocator();
+        match Shared::new(alloc, bytes) {
+            Ok(bytes) => Ok(Value { bytes }),
+            Err(_) => Err(ValueError::Memory),
         }
     }
 
@@ -69,7 +78,7 @@ impl Value {
         ensures bytes { result.now ≡ self.now }
         ensures value { IsValue self.now }
     {
-        self.bytes.as_slice()
+        self.bytes.get().as_slice()
     }
 }
 
@@ -77,7 +86,7 @@ impl Clone for Value {
     ghost is_clone = { λ v w. w ≡ v };
 
     fn clone(&self) -> Result<Value, AllocError> {
-        let bytes = self.bytes.clone()?;
+        let bytes = self.bytes.share()?;
         Ok(Value { bytes })
     }
 }

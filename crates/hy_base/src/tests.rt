@@ -2,6 +2,7 @@
 ghost use Rattle.std.specs.Prelude.{◌≡◌, ◌<◌};
 
 use super::*;
+use std::alloc::AllocError;
 use std::marker::Brand;
 use std::sync::ledger::{Blank, Ledger};
 use std::test::Fail;
@@ -59,7 +60,8 @@ fn faults_are_spelled(rt: HostRuntime) -> Result<(), Fail> {
         assert_eq!(rt; format!(in alloc; "{fault}")?.as_str(), text);
     }
     let value = "a value has 1 to 256 bytes, each from 33 to 126";
-    assert_eq!(rt; format!(in alloc; "{BadValue}")?.as_str(), value);
+    let bad = ValueError::BadValue;
+    assert_eq!(rt; format!(in alloc; "{bad}")?.as_str(), value);
     let outside = format!(in alloc; "{Failed}")?;
     assert_eq!(rt; outside.as_str(), "the outside failed");
     Ok(())
@@ -88,7 +90,8 @@ fn a_value_has_1_to_256_printable_bytes(rt: HostRuntime) -> Result<(), Fail> {
                 assert!(rt; good, "{len} bytes to {last}");
                 assert_eq!(rt; value.clone()?.as_bytes(), wanted.as_slice());
             }
-            Err(BadValue) => assert!(rt; !good, "{len} bytes to {last}"),
+            Err(ValueError::BadValue) => assert!(rt; !good, "{len} bytes to {last}"),
+            Err(ValueError::Memory) => return Err(Fail::from(AllocError)),
         }
     }
     Ok(())

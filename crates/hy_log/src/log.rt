@@ -10,7 +10,7 @@ ghost use Rattle.hy_disk.specs.Strikes.{IsUnarmed};
 ghost use Rattle.hy_base.specs.Lists.{nth};
 ghost use Rattle.hy_log.specs.Kept.{IsKept};
 ghost use Rattle.hy_log.specs.Looks.{IsLook};
-ghost use Rattle.hy_log.specs.Opening.{Opens, disk_of, outcome};
+ghost use Rattle.hy_log.specs.Opening.{MayRefuse, Opens, disk_of, outcome};
 ghost use Rattle.hy_log.specs.View.{Holds, HoldsAtMost};
 ghost use Rattle.hy_log.specs.declared.error.OpenError.TheVariants as opening;
 
@@ -287,10 +287,12 @@ pub fn open_log<D: Disk>(
 
     // The log is what the device held, and what it holds now, or the refusal is the first one.
     ensures exact { IsTrue D.tells → Opens result (outcome asked (D.content disk).seen) }
+    ensures of_asked { IfErr result (λ refused. MayRefuse asked refused.error) }
     ensures running { IfOk result (λ log. log.stopped ≡ None) }
     ensures shape { IsTrue D.tells → IfOk result (λ log. IfSome asked (λ s. log.shape ≡ s)) }
     ensures settled { IsTrue D.tells → IfOk result (λ log. (D.content log.disk ≡ settled (D.content log.disk).seen) × Holds log.shape log.bodies (D.content log.disk).seen) }
     ensures untouched { IsTrue D.tells → IfErr result (λ refused. refused.error ≢ opening.Device → refused.error ≢ opening.Memory → D.content refused.disk ≡ settled (D.content disk).seen) }
+    ensures seen { IsTrue D.tells → IfErr result (λ refused. refused.error ≢ opening.Device → (D.content refused.disk).seen ≡ (D.content disk).seen) }
 
     // A crash at any moment of the call leaves what the device held, or that and the one body whose record stood whole behind
     // a torn gate; of an unborn device it leaves an unborn one, or one without records.

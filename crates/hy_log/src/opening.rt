@@ -1,5 +1,5 @@
 //! Opening: what a device holds is read, and the gate behind it is closed.
-ghost use Rattle.std.specs.Prelude.{◌≡◌, ◌≢◌, ◌+◌, ◌*◌, ◌^◌, ◌<◌, ◌≤◌, [], ℕ, List, length, take, Some, None, Ok, Err, true, IsTrue, IsOk, IfOk, IfErr, IfSome};
+ghost use Rattle.std.specs.Prelude.{◌≡◌, Option, ◌≢◌, ◌+◌, ◌*◌, ◌^◌, ◌<◌, ◌≤◌, [], ℕ, List, length, take, Some, None, Ok, Err, true, IsTrue, IsOk, IfOk, IfErr, IfSome};
 ghost use Rattle.hy_base.specs.Faults.{HasCause, Rose};
 ghost use Rattle.hy_base.specs.Shape.{IsGoodShape};
 ghost use Rattle.hy_rules.specs.LogFormat.{is_unborn, log_in};
@@ -8,7 +8,7 @@ ghost use Rattle.hy_disk.specs.Moments.{LeavesOnly};
 ghost use Rattle.hy_pages.specs.Words.{AreBytes, IsFront};
 ghost use Rattle.hy_log.specs.Kept.{IsKept};
 ghost use Rattle.hy_log.specs.Found.{IsSoundHead, has_zero, head_of};
-ghost use Rattle.hy_log.specs.Opening.{IsOpened, OpensParts, born_with, config_fault, told_by, outcome};
+ghost use Rattle.hy_log.specs.Opening.{IsOpened, MayRefuse, OpensParts, born_with, config_fault, told_by, outcome};
 ghost use Rattle.hy_log.specs.declared.error.OpenError.TheVariants as opening;
 
 use crate::birth::{give_birth, shut};
@@ -31,7 +31,8 @@ pub struct Opened {
 }
 
 fn config_error(shape: Shape, asked: Option<Shape>) -> Option<OpenError>
-    ensures { result ≡ config_fault shape asked }
+    ensures fault { result ≡ config_fault shape asked }
+    ensures of_asked { IfSome result (MayRefuse asked) }
 {
     let asked = asked?;
     if shape.group != asked.group {
@@ -72,6 +73,7 @@ fn open_born<D: Disk>(
     ensures log { IfOk result (IsOpened D.tells (D.content disk.new)) }
     ensures exact { IsTrue D.tells → OpensParts (D.content disk.new).seen result (told_by (log_in (D.content disk.old).seen)) }
     ensures shape { IfOk result (λ o. o.shape ≡ shape) }
+    ensures of_asked { (asked : Option Shape) → IfErr result (MayRefuse asked) }
     ensures untouched { IsTrue D.tells → IfErr result (λ e. e ≢ opening.Device → D.content disk.new ≡ D.content disk.old) }
     ensures any_moment { IsTrue D.tells → LeavesOnly D.moment D.left_since disk.old disk.new (IsKept (D.content disk.old).seen) }
     ensures later { D.faults_of disk.old ≤ D.faults_of disk.new }
@@ -111,6 +113,7 @@ fn open_unborn<D: Disk>(
     requires bytes { IsTrue D.tells → AreBytes (take 256 (D.content disk.old).seen) }
     ensures log { IfOk result (IsOpened D.tells (D.content disk.new)) }
     ensures exact { IsTrue D.tells → OpensParts (D.content disk.new).seen result (born_with asked) }
+    ensures of_asked { IfErr result (MayRefuse asked) }
     ensures untouched { IsTrue D.tells → IfErr result (λ e. e ≢ opening.Device → D.content disk.new ≡ D.content disk.old) }
     ensures any_moment { IsTrue D.tells → LeavesOnly D.moment D.left_since disk.old disk.new (IsKept (D.content disk.old).seen) }
     ensures later { D.faults_of disk.old ≤ D.faults_of disk.new }
@@ -144,6 +147,7 @@ fn open_head<D: Disk>(
     requires bytes { IsTrue D.tells → AreBytes (take 256 (D.content disk.old).seen) }
     ensures log { IfOk result (IsOpened D.tells (D.content disk.new)) }
     ensures exact { IsTrue D.tells → OpensParts (D.content disk.new).seen result (outcome asked (D.content disk.old).seen) }
+    ensures of_asked { IfErr result (MayRefuse asked) }
     ensures untouched { IsTrue D.tells → IfErr result (λ e. e ≢ opening.Device → D.content disk.new ≡ D.content disk.old) }
     ensures any_moment { IsTrue D.tells → LeavesOnly D.moment D.left_since disk.old disk.new (IsKept (D.content disk.old).seen) }
     ensures later { D.faults_of disk.old ≤ D.faults_of disk.new }
@@ -173,6 +177,7 @@ fn open_settled<D: Disk>(
     requires settled { IsTrue D.tells → D.content disk.old ≡ settled (D.content disk.old).seen }
     ensures log { IfOk result (IsOpened D.tells (D.content disk.new)) }
     ensures exact { IsTrue D.tells → OpensParts (D.content disk.new).seen result (outcome asked (D.content disk.old).seen) }
+    ensures of_asked { IfErr result (MayRefuse asked) }
     ensures untouched { IsTrue D.tells → IfErr result (λ e. e ≢ opening.Device → D.content disk.new ≡ D.content disk.old) }
     ensures any_moment { IsTrue D.tells → LeavesOnly D.moment D.left_since disk.old disk.new (IsKept (D.content disk.old).seen) }
     ensures later { D.faults_of disk.old ≤ D.faults_of disk.new }
@@ -195,6 +200,7 @@ pub fn open_at<D: Disk>(
     requires good { IfSome asked IsGoodShape }
     ensures log { IfOk result (IsOpened D.tells (D.content disk.new)) }
     ensures exact { IsTrue D.tells → OpensParts (D.content disk.new).seen result (outcome asked (D.content disk.old).seen) }
+    ensures of_asked { IfErr result (MayRefuse asked) }
     ensures untouched { IsTrue D.tells → IfErr result (λ e. e ≢ opening.Device → D.content disk.new ≡ settled (D.content disk.old).seen) }
     ensures any_moment { IsTrue D.tells → D.content disk.old ≡ settled (D.content disk.old).seen → LeavesOnly D.moment D.left_since disk.old disk.new (IsKept (D.content disk.old).seen) }
     ensures later { D.faults_of disk.old ≤ D.faults_of disk.new }

@@ -20,6 +20,7 @@ pub mod Texts
 pub mod Reading
 pub mod EntryFormat
 pub mod LogFormat
+pub mod Recovery
 pub mod Work
 pub mod CommandLine
 pub mod Laws
