@@ -1,0 +1,58 @@
+-- Worked command lines, computed by the definition.
+use Rattle.std.proofs.Common.{◌≡◌, refl, List, [], ◌∷◌, Option, Some, None, codes}
+use Rattle.std.specs.Fmt.{digits}
+use Rattle.hy_base.specs.Spelling.{Text}
+use Rattle.hy_cli.specs.CommandLine.{line_of}
+use Rattle.hy_cli.specs.declared.line.Line.{Line}
+use Rattle.hy_cli.specs.declared.line.Line.TheVariants.{Sim, Recover, Check}
+
+abbrev hyder : List Text → Option Line
+hyder words = line_of (codes "hyder" ∷ words)
+
+abbrev threads : Text
+threads = codes "--threads"
+
+no_words : line_of [] ≡ None
+no_words = refl
+
+no_command : hyder [] ≡ None
+no_command = refl
+
+another_word : hyder (codes "frob" ∷ []) ≡ None
+another_word = refl
+
+two_threads : hyder (codes "sim" ∷ []) ≡ Some (Sim 2)
+two_threads = refl
+
+sixteen_threads : hyder (codes "sim" ∷ threads ∷ codes "16" ∷ []) ≡ Some (Sim 16)
+unfolding digits
+sixteen_threads = refl
+
+too_many_threads : hyder (codes "sim" ∷ threads ∷ codes "17" ∷ []) ≡ None
+unfolding digits
+too_many_threads = refl
+
+no_threads : hyder (codes "sim" ∷ threads ∷ codes "0" ∷ []) ≡ None
+unfolding digits
+no_threads = refl
+
+leading_zero : hyder (codes "sim" ∷ threads ∷ codes "04" ∷ []) ≡ None
+unfolding digits
+leading_zero = refl
+
+no_value : hyder (codes "sim" ∷ threads ∷ []) ≡ None
+no_value = refl
+
+twice : hyder (codes "sim" ∷ threads ∷ codes "4" ∷ threads ∷ codes "4" ∷ []) ≡ None
+unfolding digits
+twice = refl
+
+recovers : hyder (codes "recover" ∷ []) ≡ Some Recover
+recovers = refl
+
+checks : hyder (codes "check" ∷ []) ≡ Some Check
+checks = refl
+
+not_its_option : hyder (codes "check" ∷ threads ∷ codes "4" ∷ []) ≡ None
+unfolding digits
+not_its_option = refl

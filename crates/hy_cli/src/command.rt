@@ -1,0 +1,38 @@
+//! What `clap` is told of the program.
+ghost use Rattle.std.specs.Prelude.{◌≡◌, IfOk, false};
+ghost use Rattle.hy_cli.specs.CommandLine.{sim_command, threads_option};
+ghost use Rattle.hy_cli.specs.Matches.{app_for, hyder_app, rule_for};
+ghost use Rattle.clap.specs.Words.{app_of, rule_of};
+ghost use Rattle.clap.specs.declared.builder.command.Command.TheViews.{out-Command};
+
+use clap::{Arg, ArgAction, Command};
+use std::alloc::{AllocError, Global};
+
+fn threads_arg<'a>(alloc: Global) -> Arg<'a>
+    ensures rule { rule_of result ≡ rule_for threads_option }
+    ensures local { result.global ≡ false }
+{
+    Arg::new(alloc, "threads")
+        .long("threads")
+        .action(ArgAction::Set)
+        .value_parser(clap::value_parser!(u64).range(1..=16))
+}
+
+fn sim_command<'a>(alloc: Global) -> Result<Command<'a>, AllocError>
+    ensures { IfOk result (λ c. (app_of c ≡ app_for sim_command.name sim_command.options) × ((out-Command c).has_globals ≡ false)) }
+{
+    Command::new(alloc, "sim").arg(threads_arg(alloc))
+}
+
+/// The program with its commands. It has no help of its own: a word for help is a word like others.
+pub(crate) fn hyder_command<'a>(alloc: Global) -> Result<Command<'a>, AllocError>
+    ensures { IfOk result (λ c. app_of c ≡ hyder_app) }
+{
+    Command::new(alloc, "hyder")
+        .disable_help_flag(true)
+        .disable_help_subcommand(true)
+        .subcommand_required(true)
+        .subcommand(sim_command(alloc)?)?
+        .subcommand(Command::new(alloc, "recover"))?
+        .subcommand(Command::new(alloc, "check"))
+}

@@ -1,0 +1,44 @@
+//! What a command line asks for, and why it asks for nothing.
+ghost use Rattle.std.specs.Prelude.{◌≡◌};
+ghost use Rattle.hy_cli.specs.declared.line.CliError.TheVariants.{Memory};
+
+use std::alloc::{AllocError, AllocFailed};
+use thiserror::Error;
+
+/// What a command line asks for.
+#[derive(Clone, Copy, Debug, PartialEq, Eq)]
+pub enum Line {
+    /// Run a schedule, on 1 to 16 threads.
+    Sim { threads: u8 },
+    /// Print what the log holds.
+    Recover,
+    /// Print what the log means.
+    Check,
+}
+
+/// Why a command line asks for nothing.
+#[derive(Clone, Copy, Debug, PartialEq, Eq, Error)]
+pub enum CliError {
+    /// The words are no command of the program, or its options are wrong.
+    #[error("the words are no command line")]
+    Usage,
+    /// Memory was wanting.
+    #[error("memory was wanting")]
+    Memory,
+}
+
+impl From<AllocError> for CliError {
+    ghost from_gives = { λ _ e. e ≡ Memory };
+
+    fn from(_: AllocError) -> CliError {
+        CliError::Memory
+    }
+}
+
+impl<T: Drop> From<AllocFailed<T>> for CliError {
+    ghost from_gives = { λ _ e. e ≡ Memory };
+
+    fn from(_: AllocFailed<T>) -> CliError {
+        CliError::Memory
+    }
+}

@@ -1,0 +1,34 @@
+//! What the matches of `clap` say.
+ghost use Rattle.std.specs.Prelude.{◌≡◌, Some, codes, is_some, true};
+ghost use Rattle.hy_base.specs.Shape.{IsWithin};
+ghost use Rattle.hy_cli.specs.CommandLine.{IsInRange, command_named, threads_option};
+ghost use Rattle.hy_cli.specs.Matches.{choices_found, has_accepted, is_accepted, line_found};
+ghost use Rattle.clap.specs.Words.{found_of, rows_of};
+
+use crate::Line;
+use clap::ArgMatches;
+
+/// The number of threads.
+fn threads_of(found: &ArgMatches<'_>) -> u8
+    requires { is_accepted (rows_of (found_of found.now)) threads_option ≡ true }
+    ensures range { IsWithin 1 16 result }
+    ensures value { result ≡ (choices_found (rows_of (found_of found.now))).number_or 2 (codes "threads") }
+{
+    found.get_one::<u64>("threads").unwrap_or(2) as u8
+}
+
+/// The line that a subcommand with its matches stands for.
+pub(crate) fn line_from(name: &str, found: &ArgMatches<'_>) -> Line
+    requires known { is_some (command_named name.now) ≡ true }
+    requires accepted { has_accepted name.now (rows_of (found_of found.now)) ≡ true }
+    ensures range { IsInRange result }
+    ensures line { line_found name.now (rows_of (found_of found.now)) ≡ Some result }
+{
+    match name {
+        "recover" => Line::Recover,
+        "check" => Line::Check,
+        _ => Line::Sim {
+            threads: threads_of(found),
+        },
+    }
+}

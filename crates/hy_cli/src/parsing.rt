@@ -1,0 +1,60 @@
+//! From the words of a command line to what they ask for.
+ghost use Rattle.std.specs.Prelude.{◌≡◌, Some, false, map, IsErr, IfErr, IfOk, MatchResult};
+ghost use Rattle.hy_cli.specs.CommandLine.{IsInRange, line_of, names_command};
+ghost use Rattle.hy_cli.specs.Matches.{Asks, refuses};
+ghost use Rattle.hy_cli.specs.declared.line.Line.{Line};
+
+use crate::command::hyder_command;
+use crate::matched::line_from;
+use crate::{CliError, Line};
+use clap::error::ErrorKind;
+use hy_base::Words;
+use std::alloc::{AllocError, Global};
+
+/// What the words ask for.
+///
+/// `Usage`: they ask for nothing that the program does. Words that are a line never are refused so.
+/// `Memory`: memory was wanting.
+pub fn parse(alloc: Global, words: &Words) -> Result<Line, CliError>
+    ensures obeyed { (l : Line) → line_of words.now ≡ Some l → MatchResult result (λ r. r ≡ l) (λ e. e ≡ CliError.Memory) }
+    ensures unknown { names_command words.now ≡ false → IsErr result }
+    ensures refused { IfErr result (λ e. e ≡ CliError.Usage → refuses words.now) }
+    ensures meaning { IfOk result (Asks words.now) }
+    ensures range { IfOk result IsInRange }
+{
+    let texts = texts_of(alloc, words)?;
+    parse_texts(alloc, texts.as_slice())
+}
+
+// The words, lent.
+fn texts_of<'a>(alloc: Global, words: &'a Words) -> Result<Vec<&'a str>, AllocError>
+    ensures { IfOk result (λ texts. map (λ t. t.now) texts.items ≡ words.now) }
+{
+    let mut texts = Vec::new(alloc);
+    for at in 0..words.len() {
+        if let Some(word) = words.word(at) {
+            texts.push(word)?;
+        }
+    }
+    Ok(texts)
+}
+
+fn parse_texts(alloc: Global, words: &[&str]) -> Result<Line, CliError>
+    ensures obeyed { (l : Line) → line_of (map (λ t. t.now) words.now) ≡ Some l → MatchResult result (λ r. r ≡ l) (λ e. e ≡ CliError.Memory) }
+    ensures unknown { names_command (map (λ t. t.now) words.now) ≡ false → IsErr result }
+    ensures refused { IfErr result (λ e. e ≡ CliError.Usage → refuses (map (λ t. t.now) words.now)) }
+    ensures meaning { IfOk result (Asks (map (λ t. t.now) words.now)) }
+    ensures range { IfOk result IsInRange }
+{
+    let command = hyder_command(alloc)?;
+    match command.try_get_matches_from(words) {
+        Ok(matches) => match matches.subcommand() {
+            Some((name, found)) => Ok(line_from(name, found)),
+            None => Err(CliError::Usage),
+        },
+        Err(error) => match error.kind() {
+            ErrorKind::OutOfMemory => Err(CliError::Memory),
+            _ => Err(CliError::Usage),
+        },
+    }
+}

@@ -1,0 +1,116 @@
+-- The words of a spelled line are read as what they spell.
+use Rattle.std.proofs.Common.{arith, lt-ltb, ◌≡◌, ℕ, ◌<◌, ◌≤◌, ◌^◌, ◌%◌, ◌==◌, Bool, true, false, ◌&&◌, [], ◌∷◌, length, refl, ap, ◌∙◌, if◌then◌else◌, nat_lt, nat_le}
+use Rattle.std.specs.Prelude.{Result, Ok, Err, ok_or, codes, decimal}
+use Rattle.std.proofs.lemmas.Bool.{and_from, le-leb, ne_eqb}
+use Rattle.std.proofs.lemmas.Bool.Decides.{nat_tests}
+use Rattle.std.proofs.lemmas.Fmt.{decimal_nonempty}
+use Rattle.hy_base.specs.declared.layout.Shape.{Shape}
+use Rattle.hy_base.specs.declared.workload.Command.{Command}
+use Rattle.hy_base.specs.declared.workload.Command.TheVariants.{Get, Put, Del, Add, Scan}
+use Rattle.hy_base.specs.Script.{Workload, IsCommand, client_count}
+use Rattle.hy_base.specs.Shape.{IsWithin, IsGoodShape, is_within}
+use Rattle.hy_base.specs.Spelling.{Text}
+use Rattle.hy_base.specs.Value.{is_value}
+use Rattle.hy_script.specs.Fields.{and_then, number_field, one_number, two_numbers, three_numbers, number_and_text}
+use Rattle.hy_script.specs.Forms.{is_blank}
+use Rattle.hy_script.specs.ForNow.{IsShapeForNow, is_shape_for_now}
+use Rattle.hy_script.specs.Grammar.{is_shape, last_program_count}
+use Rattle.hy_script.specs.Laws.{FitsFields}
+use Rattle.hy_script.specs.ScriptFields.{listing_line, number_within, one_more, program_line, servers_line, shape_line}
+use Rattle.hy_script.specs.Spelling.{command_words}
+use Rattle.hy_script.specs.declared.script.ListingLine.{ListingLine}
+use Rattle.hy_script.specs.declared.script.ListingLine.TheVariants.{Client, Begin, Schedule}
+use Rattle.hy_script.specs.declared.script.ProgramLine.TheVariants.{Next}
+use Rattle.hy_script.specs.declared.why.Why.{Why}
+use Rattle.hy_script.specs.declared.why.Why.TheVariants.{Number, Value, Range, Order, Count}
+use Rattle.hy_script.proofs.Numbers.{number_of_decimal}
+
+-- fields
+
+field_again : (n : ℕ) → n < 2 ^ 64 → number_field (decimal n) ≡ Ok n
+field_again n small = ap (λ x. ok_or x Number) (number_of_decimal (decimal n) n small refl)
+
+some : (n : ℕ) → n < 2 ^ 64 → is_blank (decimal n) ≡ false
+some n small = ne_eqb (length (decimal n)) 0 (λ e. omega (arith, e, decimal_nonempty n small))
+
+pub one_again : (n : ℕ) → n < 2 ^ 64 → one_number (decimal n ∷ []) ≡ Ok n
+one_again n small = rw (some n small) (field_again n small)
+
+pub two_again : (l m : ℕ) → l < 2 ^ 64 → m < 2 ^ 64 → two_numbers (decimal l ∷ decimal m ∷ []) ≡ Ok (l, m)
+two_again l m a b = rw (some l a, some m b, field_again l a, field_again m b) refl
+
+pub three_again : (l m n : ℕ) → l < 2 ^ 64 → m < 2 ^ 64 → n < 2 ^ 64 → three_numbers (decimal l ∷ decimal m ∷ decimal n ∷ []) ≡ Ok (l, m, n)
+three_again l m n a b c = rw (some l a, some m b, some n c, field_again l a, field_again m b, field_again n c) refl
+
+value_some : (value : Text) → is_value value ≡ true → is_blank value ≡ false
+value_some [] e = cc
+value_some (b ∷ bytes) e = ne_eqb (length (b ∷ bytes)) 0 (λ none. omega (arith, none))
+
+pub text_again : (n : ℕ) (value : Text) → n < 2 ^ 64 → is_value value ≡ true → number_and_text (decimal n ∷ value ∷ []) ≡ Ok (n, value)
+text_again n value small e = rw (some n small, value_some value e, field_again n small) refl
+
+pub within_is : (low high n : ℕ) → IsWithin low high n → is_within low high n ≡ true
+within_is low high n w = and_from (nat_le low n) (nat_le n high) (le-leb low n w.at_least) (le-leb n high w.at_most)
+
+if_so : {A : Type 0} (t : Bool) (x y : A) → t ≡ true → (if t then x else y) ≡ x
+if_so true x y e = refl
+if_so false x y e = cc
+
+-- lines
+
+same : (a b : ℕ) → a ≡ b → (a == b) ≡ true
+same a b e = grind (arith, nat_tests)
+
+shape_is : (shape : Shape) → IsGoodShape shape → IsShapeForNow shape → is_shape shape.group shape.window shape.cap ≡ true
+shape_is shape good now =
+    and_from (is_shape_for_now shape.group shape.window) _ (and_from (shape.group == 1) (shape.window == 1) (same shape.group 1 now.0) (same shape.window 1 now.1))
+    (and_from (is_within 1 8 shape.group) _ (within_is 1 8 shape.group good.group)
+    (and_from (is_within 1 64 shape.window) _ (within_is 1 64 shape.window good.window)
+    (and_from (is_within shape.group 2147483648 shape.cap) (shape.cap % shape.group == 0) (within_is shape.group 2147483648 shape.cap good.cap) (same (shape.cap % shape.group) 0 good.whole_groups))))
+
+pub shape_again : (shape : Shape) → IsGoodShape shape → IsShapeForNow shape → shape_line (codes "shape" ∷ decimal shape.group ∷ decimal shape.window ∷ decimal shape.cap ∷ []) ≡ Ok shape
+shape_again shape good now =
+    ap (λ read. and_then read (λ p. if is_shape p.0 p.1 p.2 then Ok (record { group = p.0; window = p.1; cap = p.2 }) else Err Range))
+    (three_again shape.group shape.window shape.cap (omega (arith, good.group.at_most)) (omega (arith, good.window.at_most)) (omega (arith, good.cap.at_most)))
+    ∙ if_so (is_shape shape.group shape.window shape.cap) (Ok shape) (Err Range) (shape_is shape good now)
+
+within_again : (low high n : ℕ) → high < 2 ^ 64 → IsWithin low high n → number_within low high (decimal n ∷ []) ≡ Ok n
+within_again low high n small w =
+    ap (λ read. and_then read (λ m. if is_within low high m then Ok m else Err Range)) (one_again n (omega (arith, small, w.at_most)))
+    ∙ if_so (is_within low high n) (Ok n) (Err Range) (within_is low high n w)
+
+pub servers_again : (n : ℕ) → IsWithin 1 8 n → servers_line (codes "servers" ∷ decimal n ∷ []) ≡ Ok n
+servers_again n w = within_again 1 8 n (omega arith) w
+
+pub client_again : (sim : Bool) (script : Workload) (server : ℕ) → script.servers ≤ 8 → IsWithin 1 script.servers server → client_count script.clients server < 16
+    → listing_line sim script (codes "client" ∷ decimal server ∷ []) ≡ Ok (Client server)
+client_again sim script server few w room =
+    ap (λ read. and_then read (λ s. if nat_lt (client_count script.clients s) 16 then Ok (Client s) else Err Count)) (within_again 1 script.servers server (omega (arith, few)) w)
+    ∙ if_so (nat_lt (client_count script.clients server) 16) (Ok (Client server)) (Err Count) (lt-ltb (client_count script.clients server) 16 room)
+
+pub begin_again : (sim : Bool) (script : Workload) → 0 < length script.clients → last_program_count script.clients < 10000 → listing_line sim script (codes "begin" ∷ []) ≡ Ok Begin
+begin_again sim script is room = rw (lt-ltb 0 (length script.clients) is, lt-ltb (last_program_count script.clients) 10000 room) refl
+
+past_begin : (t : Bool) (x : Result ListingLine Why) → (if t && false then x else Ok Schedule) ≡ Ok Schedule
+past_begin true x = refl
+past_begin false x = refl
+
+pub schedule_again : (script : Workload) → listing_line true script (codes "schedule" ∷ []) ≡ Ok Schedule
+schedule_again script = past_begin (nat_lt 0 (length script.clients)) _
+
+one_more_again : (count : ℕ) (command : Command) → count < 64 → one_more count command ≡ Ok (Next command)
+one_more_again count command room = if_so (nat_lt count 64) (Ok (Next command)) (Err Count) (lt-ltb count 64 room)
+
+pub command_again : (count : ℕ) (command : Command) → FitsFields command → IsCommand command → count < 64 → program_line count (command_words command) ≡ Ok (Next command)
+command_again count (Get key) fits lawful room = ap (λ read. and_then read (λ k. one_more count (Get k))) (one_again key fits) ∙ one_more_again count (Get key) room
+command_again count (Put key value) fits lawful room =
+    ap (λ read. and_then read (λ p. if is_value p.1 then one_more count (Put p.0 p.1) else Err Value)) (text_again key value fits lawful)
+    ∙ if_so (is_value value) (one_more count (Put key value)) (Err Value) lawful ∙ one_more_again count (Put key value) room
+command_again count (Del key) fits lawful room = ap (λ read. and_then read (λ k. one_more count (Del k))) (one_again key fits) ∙ one_more_again count (Del key) room
+command_again count (Add key n) fits lawful room = ap (λ read. and_then read (λ p. one_more count (Add p.0 p.1))) (two_again key n fits.0 fits.1) ∙ one_more_again count (Add key n) room
+command_again count (Scan lo hi n) fits lawful room =
+    let read = three_again lo hi n (omega (arith, fits, lawful.0)) fits (omega (arith, lawful.1.at_most)) in
+    ap (λ r. and_then (and_then r (λ p. if is_within 1 1000 p.2 then (if nat_le p.0 p.1 then Ok (Scan p.0 p.1 p.2) else Err Order) else Err Range)) (one_more count)) read
+    ∙ ap (λ r. and_then r (one_more count))
+    (if_so (is_within 1 1000 n) (if nat_le lo hi then Ok (Scan lo hi n) else Err Order) (Err Range) (within_is 1 1000 n lawful.1) ∙ if_so (nat_le lo hi) (Ok (Scan lo hi n)) (Err Order) (le-leb lo hi lawful.0))
+    ∙ one_more_again count (Scan lo hi n) room

@@ -1,0 +1,183 @@
+-- From what a line was read as, to its words.
+use Rattle.std.proofs.Common.{eqb-true, ltb-true, ◌≡◌, ℕ, ◌<◌, ◌%◌, ◌==◌, Bool, true, ◌&&◌, List, [], ◌∷◌, length, sym, ap, subst, ◌∙◌, if◌then◌else◌, nat_lt, nat_le}
+use Rattle.std.specs.Prelude.{Ok, Err, bytes_eq, codes, decimal}
+use Rattle.std.proofs.lemmas.Bool.{and_parts, leb-true}
+use Rattle.hy_base.specs.declared.layout.Shape.{Shape}
+use Rattle.hy_base.specs.declared.workload.Command.{Command}
+use Rattle.hy_base.specs.declared.workload.Command.TheVariants.{Get, Put, Del, Add, Scan}
+use Rattle.hy_base.specs.Script.{Workload, IsCommand, client_count}
+use Rattle.hy_base.specs.Shape.{IsWithin, IsGoodShape, is_within}
+use Rattle.hy_base.specs.Spelling.{Text}
+use Rattle.hy_base.specs.Value.{is_value}
+use Rattle.hy_script.specs.Fields.{and_then, one_number, two_numbers, three_numbers, number_and_text, no_fields}
+use Rattle.hy_script.specs.ForNow.{IsShapeForNow, is_shape_for_now}
+use Rattle.hy_script.specs.Grammar.{is_shape, last_program_count}
+use Rattle.hy_script.specs.Laws.{FitsFields}
+use Rattle.hy_script.specs.ScriptFields.{client_fields, begin_fields, listing_line, number_within, one_more, program_line, put_fields, scan_fields, servers_line, shape_fields, shape_line}
+use Rattle.hy_script.specs.Spelling.{command_words}
+use Rattle.hy_script.specs.declared.script.ListingLine.{ListingLine}
+use Rattle.hy_script.specs.declared.script.ListingLine.TheVariants.{Client, Begin, Schedule}
+use Rattle.hy_script.specs.declared.script.ProgramLine.{ProgramLine}
+use Rattle.hy_script.specs.declared.script.ProgramLine.TheVariants.{Next, End}
+use Rattle.hy_script.specs.declared.why.Why.TheVariants.{Word, Value, Range, Order, Count}
+use Rattle.hy_script.proofs.FieldsRead.{and_then_was, branch, if_was, none_was, one_was, text_was, three_was, two_was, within_was, words_are}
+
+-- the shape and the servers
+
+pub record IsShapeLine (words : List Text) (shape : Shape) : Type 0 where
+  pub are : words ≡ codes "shape" ∷ decimal shape.group ∷ decimal shape.window ∷ decimal shape.cap ∷ []
+  pub good : IsGoodShape shape
+  pub for_now : IsShapeForNow shape
+
+shape_tests : (p : ℕ × ℕ × ℕ) → is_shape p.0 p.1 p.2 ≡ true → IsGoodShape (record { group = p.0; window = p.1; cap = p.2 }) × IsShapeForNow (record { group = p.0; window = p.1; cap = p.2 })
+shape_tests p e =
+    let a = and_parts (is_shape_for_now p.0 p.1) _ e in
+    let b = and_parts (p.0 == 1) (p.1 == 1) a.0 in
+    let c = and_parts (is_within 1 8 p.0) _ a.1 in
+    let d = and_parts (is_within 1 64 p.1) _ c.1 in
+    let f = and_parts (is_within p.0 2147483648 p.2) (p.2 % p.0 == 0) d.1 in (
+      record { group = within_was 1 8 p.0 c.0; window = within_was 1 64 p.1 d.0; cap = within_was p.0 2147483648 p.2 f.0; whole_groups = eqb-true (p.2 % p.0) 0 f.1 },
+      (eqb-true p.0 1 b.0, eqb-true p.1 1 b.1),
+    )
+
+pub shape_was : (words : List Text) (shape : Shape) → shape_line words ≡ Ok shape → IsShapeLine words shape
+shape_was [] shape e = cc
+shape_was (word ∷ fields) shape e =
+    let named = if_was (bytes_eq word (codes "shape")) (shape_fields fields) Word shape e in
+    let read = and_then_was (three_numbers fields) (λ p. if is_shape p.0 p.1 p.2 then Ok (record { group = p.0; window = p.1; cap = p.2 }) else Err Range) shape named.1 in
+    let p = read.0 in
+    let numbers = three_was fields p read.1 in
+    let tested = if_was (is_shape p.0 p.1 p.2) (Ok (record { group = p.0; window = p.1; cap = p.2 })) Range shape read.2 in
+    let good = shape_tests p tested.0 in
+    let same : record { group = p.0; window = p.1; cap = p.2 } ≡ shape = cc (tested.1) in
+    subst (IsShapeLine (word ∷ fields)) same (record { are = words_are word (codes "shape") fields _ named.0 numbers.words; good = good.0; for_now = good.1 })
+
+pub number_within_was : (low high : ℕ) (fields : List Text) (n : ℕ) → number_within low high fields ≡ Ok n → (fields ≡ decimal n ∷ []) × IsWithin low high n
+number_within_was low high fields n e =
+    let read = and_then_was (one_number fields) (λ m. if is_within low high m then Ok m else Err Range) n e in
+    let tested = if_was (is_within low high read.0) (Ok read.0) Range n read.2 in
+    let same : read.0 ≡ n = cc (tested.1) in
+    (subst (λ k. fields ≡ decimal k ∷ []) same (one_was fields read.0 read.1).0, subst (IsWithin low high) same (within_was low high read.0 tested.0))
+
+pub servers_was : (words : List Text) (n : ℕ) → servers_line words ≡ Ok n → (words ≡ codes "servers" ∷ decimal n ∷ []) × IsWithin 1 8 n
+servers_was [] n e = cc
+servers_was (word ∷ fields) n e =
+    let named = if_was (bytes_eq word (codes "servers")) (number_within 1 8 fields) Word n e in
+    let was = number_within_was 1 8 fields n named.1 in
+    (words_are word (codes "servers") fields _ named.0 was.0, was.1)
+
+-- between programs
+
+abbrev pub IsListingLine : Workload → List Text → ListingLine → Type 0
+IsListingLine script words (Client server) = (words ≡ codes "client" ∷ decimal server ∷ []) × IsWithin 1 script.servers server × (client_count script.clients server < 16)
+IsListingLine script words Begin = (words ≡ codes "begin" ∷ []) × (0 < length script.clients) × (last_program_count script.clients < 10000)
+IsListingLine script words Schedule = words ≡ codes "schedule" ∷ []
+
+client_was : (script : Workload) (word : Text) (fields : List Text) (read : ListingLine) → bytes_eq word (codes "client") ≡ true → client_fields script fields ≡ Ok read → IsListingLine script (word ∷ fields) read
+client_was script word fields read named e =
+    let step = and_then_was (number_within 1 script.servers fields) (λ server. if nat_lt (client_count script.clients server) 16 then Ok (Client server) else Err Count) read e in
+    let tested = if_was (nat_lt (client_count script.clients step.0) 16) (Ok (Client step.0)) Count read step.2 in
+    let same : Client step.0 ≡ read = cc (tested.1) in
+    let was = number_within_was 1 script.servers fields step.0 step.1 in
+    subst (IsListingLine script (word ∷ fields)) same (words_are word (codes "client") fields _ named was.0, was.1, ltb-true (client_count script.clients step.0) 16 tested.0)
+
+begin_was : (script : Workload) (word : Text) (fields : List Text) (read : ListingLine) → bytes_eq word (codes "begin") ≡ true → 0 < length script.clients → begin_fields script fields ≡ Ok read
+    → IsListingLine script (word ∷ fields) read
+begin_was script word fields read named some e =
+    let step = and_then_was (no_fields fields) (λ u. if nat_lt (last_program_count script.clients) 10000 then Ok Begin else Err Count) read e in
+    let tested = if_was (nat_lt (last_program_count script.clients) 10000) (Ok Begin) Count read step.2 in
+    let same : Begin ≡ read = cc (tested.1) in
+    subst (IsListingLine script (word ∷ fields)) same (words_are word (codes "begin") fields _ named (none_was fields step.0 step.1), some, ltb-true (last_program_count script.clients) 10000 tested.0)
+
+schedule_was : (script : Workload) (word : Text) (fields : List Text) (read : ListingLine) → bytes_eq word (codes "schedule") ≡ true → and_then (no_fields fields) (λ u. Ok Schedule) ≡ Ok read
+    → IsListingLine script (word ∷ fields) read
+schedule_was script word fields read named e =
+    let step = and_then_was (no_fields fields) (λ u. Ok Schedule) read e in
+    let same : Schedule ≡ read = cc (step.2) in
+    subst (IsListingLine script (word ∷ fields)) same (words_are word (codes "schedule") fields _ named (none_was fields step.0 step.1))
+
+pub listing_was : (sim : Bool) (script : Workload) (words : List Text) (read : ListingLine) → listing_line sim script words ≡ Ok read → IsListingLine script words read
+listing_was sim script [] read e = cc
+listing_was sim script (word ∷ fields) read e =
+    branch (bytes_eq word (codes "client")) _ _ read e (λ named x. client_was script word fields read named x)
+    (λ a x. branch (nat_lt 0 (length script.clients) && bytes_eq word (codes "begin")) _ _ read x
+    (λ both y. let parts = and_parts (nat_lt 0 (length script.clients)) (bytes_eq word (codes "begin")) both in begin_was script word fields read parts.1 (ltb-true 0 (length script.clients) parts.0) y)
+    (λ b y.
+    let last = if_was (sim && bytes_eq word (codes "schedule")) (and_then (no_fields fields) (λ u. Ok Schedule)) Word read y in
+    schedule_was script word fields read (and_parts sim (bytes_eq word (codes "schedule")) last.0).1 last.1))
+
+-- in a program
+
+pub record IsNextLine (count : ℕ) (words : List Text) (command : Command) : Type 0 where
+  pub are : words ≡ command_words command
+  pub fits : FitsFields command
+  pub lawful : IsCommand command
+  pub room : count < 64
+
+abbrev pub IsProgramLine : ℕ → List Text → ProgramLine → Type 0
+IsProgramLine count words (Next command) = IsNextLine count words command
+IsProgramLine count words End = words ≡ codes "end" ∷ []
+
+next_was : (count : ℕ) (words : List Text) (command : Command) (read : ProgramLine) → one_more count command ≡ Ok read → words ≡ command_words command → FitsFields command → IsCommand command
+    → IsProgramLine count words read
+next_was count words command read e same fits lawful =
+    let tested = if_was (nat_lt count 64) (Ok (Next command)) Count read e in
+    let is : Next command ≡ read = cc (tested.1) in
+    subst (IsProgramLine count words) is (record { are = same; fits = fits; lawful = lawful; room = ltb-true count 64 tested.0 })
+
+module _ (count : ℕ) (word : Text) (fields : List Text) (read : ProgramLine) where
+  get_was : bytes_eq word (codes "get") ≡ true → and_then (one_number fields) (λ key. one_more count (Get key)) ≡ Ok read → IsProgramLine count (word ∷ fields) read
+  get_was named e =
+      let step = and_then_was (one_number fields) (λ key. one_more count (Get key)) read e in
+      let was = one_was fields step.0 step.1 in
+      next_was count (word ∷ fields) (Get step.0) read step.2 (words_are word (codes "get") fields _ named was.0) was.1 tt
+
+  del_was : bytes_eq word (codes "del") ≡ true → and_then (one_number fields) (λ key. one_more count (Del key)) ≡ Ok read → IsProgramLine count (word ∷ fields) read
+  del_was named e =
+      let step = and_then_was (one_number fields) (λ key. one_more count (Del key)) read e in
+      let was = one_was fields step.0 step.1 in
+      next_was count (word ∷ fields) (Del step.0) read step.2 (words_are word (codes "del") fields _ named was.0) was.1 tt
+
+  add_was : bytes_eq word (codes "add") ≡ true → and_then (two_numbers fields) (λ p. one_more count (Add p.0 p.1)) ≡ Ok read → IsProgramLine count (word ∷ fields) read
+  add_was named e =
+      let step = and_then_was (two_numbers fields) (λ p. one_more count (Add p.0 p.1)) read e in
+      let was = two_was fields step.0 step.1 in
+      next_was count (word ∷ fields) (Add step.0.0 step.0.1) read step.2 (words_are word (codes "add") fields _ named was.words) (was.first, was.second) tt
+
+  put_was : bytes_eq word (codes "put") ≡ true → put_fields count fields ≡ Ok read → IsProgramLine count (word ∷ fields) read
+  put_was named e =
+      let step = and_then_was (number_and_text fields) (λ p. if is_value p.1 then one_more count (Put p.0 p.1) else Err Value) read e in
+      let was = text_was fields step.0 step.1 in
+      let tested = if_was (is_value step.0.1) (one_more count (Put step.0.0 step.0.1)) Value read step.2 in
+      next_was count (word ∷ fields) (Put step.0.0 step.0.1) read tested.1 (words_are word (codes "put") fields _ named was.0) was.1 tested.0
+
+  scan_was : bytes_eq word (codes "scan") ≡ true → and_then (scan_fields fields) (one_more count) ≡ Ok read → IsProgramLine count (word ∷ fields) read
+  scan_was named e =
+      let step = and_then_was (scan_fields fields) (one_more count) read e in
+      let scan = and_then_was (three_numbers fields) (λ p. if is_within 1 1000 p.2 then (if nat_le p.0 p.1 then Ok (Scan p.0 p.1 p.2) else Err Order) else Err Range) step.0 step.1 in
+      let p = scan.0 in
+      let was = three_was fields p scan.1 in
+      let ranged = if_was (is_within 1 1000 p.2) (if nat_le p.0 p.1 then Ok (Scan p.0 p.1 p.2) else Err Order) Range step.0 scan.2 in
+      let ordered = if_was (nat_le p.0 p.1) (Ok (Scan p.0 p.1 p.2)) Order step.0 ranged.1 in
+      let is : step.0 ≡ Scan p.0 p.1 p.2 = cc (ordered.1) in
+      next_was count (word ∷ fields) (Scan p.0 p.1 p.2) read (ap (one_more count) (sym is) ∙ step.2) (words_are word (codes "scan") fields _ named was.words) was.second
+      (leb-true p.0 p.1 ordered.0, within_was 1 1000 p.2 ranged.0)
+
+  end_was : bytes_eq word (codes "end") ≡ true → and_then (no_fields fields) (λ u. Ok End) ≡ Ok read → IsProgramLine count (word ∷ fields) read
+  end_was named e =
+      let step = and_then_was (no_fields fields) (λ u. Ok End) read e in
+      let same : End ≡ read = cc (step.2) in
+      subst (IsProgramLine count (word ∷ fields)) same (words_are word (codes "end") fields _ named (none_was fields step.0 step.1))
+
+  program_by : program_line count (word ∷ fields) ≡ Ok read → IsProgramLine count (word ∷ fields) read
+  program_by e =
+      branch (bytes_eq word (codes "get")) _ _ read e get_was
+      (λ a f. branch (bytes_eq word (codes "put")) _ _ read f put_was
+      (λ b g. branch (bytes_eq word (codes "del")) _ _ read g del_was
+      (λ c h. branch (bytes_eq word (codes "add")) _ _ read h add_was
+      (λ d i. branch (bytes_eq word (codes "scan")) _ _ read i scan_was
+      (λ k l. let last = if_was (bytes_eq word (codes "end")) (and_then (no_fields fields) (λ u. Ok End)) Word read l in end_was last.0 last.1)))))
+
+pub program_was : (count : ℕ) (words : List Text) (read : ProgramLine) → program_line count words ≡ Ok read → IsProgramLine count words read
+program_was count [] read e = cc
+program_was count (word ∷ fields) read e = program_by count word fields read e

@@ -1,0 +1,210 @@
+-- What the lines between and in programs lead to.
+use Rattle.std.proofs.Common.{◌≡◌, ℕ, Bool, true, false, ◌&&◌, List, [], ◌∷◌, ◌++◌, length, refl, sym, ap, subst, ◌∙◌, if◌then◌else◌, nat_lt, nat_le}
+use Rattle.std.specs.Prelude.{Result, Ok, Err, bytes_eq, codes}
+use Rattle.std.proofs.lemmas.Slice.Eq.{bytes_eq-Decides}
+use Rattle.hy_base.specs.declared.workload.Command.{Command}
+use Rattle.hy_base.specs.declared.workload.Command.TheVariants.{Get, Put, Del, Add, Scan}
+use Rattle.hy_base.specs.Script.{Workload, client_count}
+use Rattle.hy_base.specs.Shape.{is_within}
+use Rattle.hy_base.specs.Value.{is_value}
+use Rattle.hy_base.specs.Spelling.{Text}
+use Rattle.hy_script.specs.Forms.{Meaning, LineForm, judged, read_line, read_fields}
+use Rattle.hy_script.specs.Fields.{and_then, one_number, two_numbers, three_numbers, number_and_text, no_fields}
+use Rattle.hy_script.specs.Grammar.{Place, Listing, Programming, Scheduled, client_form, begin_form, schedule_form, forms_at, makes, makes_if, gains, with_client, with_program, last_program_count}
+use Rattle.hy_script.specs.Parts.{leading, after_listing, after_program_line}
+use Rattle.hy_script.specs.ScriptFields.{program_line, listing_line, client_fields, begin_fields, one_more}
+use Rattle.hy_script.specs.declared.script.ProgramLine.TheVariants.{Next, End}
+use Rattle.hy_script.specs.declared.script.ListingLine.{ListingLine}
+use Rattle.hy_script.specs.declared.script.ListingLine.TheVariants.{Client, Begin, Schedule}
+use Rattle.hy_script.specs.declared.why.Why.{Why}
+use Rattle.hy_script.specs.declared.why.Why.TheVariants.{Word, Value, Range, Order, Count}
+use Rattle.hy_script.proofs.FieldLemmas.{read_alone, read_one, read_two, read_three, read_text}
+
+-- what leads on for each reading of the fields leads on
+over : {A B : Type 0} (place : B → Place) (read : Result A Why) (meaning : A → Meaning Place) (next : A → Result B Why)
+    → ((a : A) → judged (meaning a) ≡ leading place (next a)) → and_then read (λ a. judged (meaning a)) ≡ leading place (and_then read next)
+over place (Ok a) meaning next each = each a
+over place (Err why) meaning next each = refl
+
+counted : (t : Bool) (script : Workload) (commands : List Command) (c : Command)
+    → judged (makes_if ((t, Count) ∷ []) (Programming script (commands ++ c ∷ []))) ≡ leading (after_program_line script commands) (if t then Ok (Next c) else Err Count)
+counted true script commands c = refl
+counted false script commands c = refl
+
+valued : (s t : Bool) (script : Workload) (commands : List Command) (c : Command)
+    → judged (makes_if ((s, Value) ∷ (t, Count) ∷ []) (Programming script (commands ++ c ∷ []))) ≡ leading (after_program_line script commands) (if s then (if t then Ok (Next c) else Err Count) else Err Value)
+valued true t script commands c = counted t script commands c
+valued false t script commands c = refl
+
+scanned : (r o t : Bool) (script : Workload) (commands : List Command) (c : Command)
+    → judged (makes_if ((r, Range) ∷ (o, Order) ∷ (t, Count) ∷ []) (Programming script (commands ++ c ∷ [])))
+    ≡ leading (after_program_line script commands) (and_then (if r then (if o then Ok c else Err Order) else Err Range) (λ d. if t then Ok (Next d) else Err Count))
+scanned true true t script commands c = counted t script commands c
+scanned true false t script commands c = refl
+scanned false o t script commands c = refl
+
+joined : {A B C : Type 0} (read : Result A Why) (f : A → Result B Why) (g : B → Result C Why) → and_then read (λ a. and_then (f a) g) ≡ and_then (and_then read f) g
+joined (Ok a) f g = refl
+joined (Err why) f g = refl
+
+named : (word name : Text) → bytes_eq word name ≡ true → word ≡ name
+named word name e = (bytes_eq-Decides word name).0 e
+
+module _ (sim : Bool) (number : ℕ) (script : Workload) (commands : List Command) (fields : List Text) where
+  abbrev Leads : Text → Type 0
+  Leads word = leading (after_program_line script commands) (program_line (length commands) (word ∷ fields)) ≡ read_line (forms_at sim (Programming script commands) number) (word ∷ fields)
+
+  get_leads : Leads (codes "get")
+  get_leads = sym (read_one "get" _ fields ∙ over _ (one_number fields) (λ key. gains script commands (Get key) []) (λ key. one_more (length commands) (Get key)) (λ key. counted (nat_lt (length commands) 64) script commands (Get key)))
+
+  put_leads : Leads (codes "put")
+  put_leads = sym (read_text "put" _ fields ∙ over _ (number_and_text fields) (λ p. gains script commands (Put p.0 p.1) ((is_value p.1, Value) ∷ [])) (λ p. if is_value p.1 then one_more (length commands) (Put p.0 p.1) else Err Value)
+      (λ p. valued (is_value p.1) (nat_lt (length commands) 64) script commands (Put p.0 p.1)))
+
+  del_leads : Leads (codes "del")
+  del_leads = sym (read_one "del" _ fields ∙ over _ (one_number fields) (λ key. gains script commands (Del key) []) (λ key. one_more (length commands) (Del key)) (λ key. counted (nat_lt (length commands) 64) script commands (Del key)))
+
+  add_leads : Leads (codes "add")
+  add_leads = sym (read_two "add" _ fields ∙ over _ (two_numbers fields) (λ p. gains script commands (Add p.0 p.1) []) (λ p. one_more (length commands) (Add p.0 p.1)) (λ p. counted (nat_lt (length commands) 64) script commands (Add p.0 p.1)))
+
+  abbrev one_scan : ℕ × ℕ × ℕ → Result Command Why
+  one_scan p = if is_within 1 1000 p.2 then (if nat_le p.0 p.1 then Ok (Scan p.0 p.1 p.2) else Err Order) else Err Range
+
+  scan_leads : Leads (codes "scan")
+  scan_leads = sym (read_three "scan" _ fields
+      ∙ over _ (three_numbers fields) (λ p. gains script commands (Scan p.0 p.1 p.2) ((is_within 1 1000 p.2, Range) ∷ (nat_le p.0 p.1, Order) ∷ [])) (λ p. and_then (one_scan p) (one_more (length commands)))
+      (λ p. scanned (is_within 1 1000 p.2) (nat_le p.0 p.1) (nat_lt (length commands) 64) script commands (Scan p.0 p.1 p.2))
+      ∙ ap (leading (after_program_line script commands)) (joined (three_numbers fields) one_scan (one_more (length commands))))
+
+  end_leads : Leads (codes "end")
+  end_leads = sym (read_alone "end" _ fields ∙ over _ (no_fields fields) (λ u. makes (Listing (with_program commands script))) (λ u. Ok End) (λ u. refl))
+
+  module _ (word : Text) where
+    at_name : (name : Text) → bytes_eq word name ≡ true → Leads name → Leads word
+    at_name name e leads = subst Leads (sym (named word name e)) leads
+
+    by_end : (t : Bool) → bytes_eq word (codes "get") ≡ false → bytes_eq word (codes "put") ≡ false → bytes_eq word (codes "del") ≡ false → bytes_eq word (codes "add") ≡ false → bytes_eq word (codes "scan") ≡ false
+        → bytes_eq word (codes "end") ≡ t → Leads word
+    by_end true a b c d e f = at_name (codes "end") f end_leads
+    by_end false a b c d e f = rw (a, b, c, d, e, f) refl
+
+    by_scan : (t : Bool) → bytes_eq word (codes "get") ≡ false → bytes_eq word (codes "put") ≡ false → bytes_eq word (codes "del") ≡ false → bytes_eq word (codes "add") ≡ false → bytes_eq word (codes "scan") ≡ t → Leads word
+    by_scan true a b c d e = at_name (codes "scan") e scan_leads
+    by_scan false a b c d e = by_end (bytes_eq word (codes "end")) a b c d e refl
+
+    by_add : (t : Bool) → bytes_eq word (codes "get") ≡ false → bytes_eq word (codes "put") ≡ false → bytes_eq word (codes "del") ≡ false → bytes_eq word (codes "add") ≡ t → Leads word
+    by_add true a b c d = at_name (codes "add") d add_leads
+    by_add false a b c d = by_scan (bytes_eq word (codes "scan")) a b c d refl
+
+    by_del : (t : Bool) → bytes_eq word (codes "get") ≡ false → bytes_eq word (codes "put") ≡ false → bytes_eq word (codes "del") ≡ t → Leads word
+    by_del true a b c = at_name (codes "del") c del_leads
+    by_del false a b c = by_add (bytes_eq word (codes "add")) a b c refl
+
+    by_put : (t : Bool) → bytes_eq word (codes "get") ≡ false → bytes_eq word (codes "put") ≡ t → Leads word
+    by_put true a b = at_name (codes "put") b put_leads
+    by_put false a b = by_del (bytes_eq word (codes "del")) a b refl
+
+    by_get : (t : Bool) → bytes_eq word (codes "get") ≡ t → Leads word
+    by_get true a = at_name (codes "get") a get_leads
+    by_get false a = by_put (bytes_eq word (codes "put")) a refl
+
+pub program_leads : (sim : Bool) (number : ℕ) (script : Workload) (commands : List Command) (words : List Text)
+    → leading (after_program_line script commands) (program_line (length commands) words) ≡ read_line (forms_at sim (Programming script commands) number) words
+program_leads sim number script commands [] = refl
+program_leads sim number script commands (word ∷ fields) = by_get sim number script commands fields word (bytes_eq word (codes "get")) refl
+
+-- between programs
+
+client_room : (t : Bool) (script : Workload) (number server : ℕ)
+    → judged (makes_if ((t, Count) ∷ []) (Listing (with_client server script))) ≡ leading (after_listing script number) (if t then Ok (Client server) else Err Count)
+client_room true script number server = refl
+client_room false script number server = refl
+
+client_tests : (r : Bool) (script : Workload) (number server : ℕ)
+    → judged (makes_if ((r, Range) ∷ (nat_lt (client_count script.clients server) 16, Count) ∷ []) (Listing (with_client server script)))
+    ≡ leading (after_listing script number) (and_then (if r then Ok server else Err Range) (λ s. if nat_lt (client_count script.clients s) 16 then Ok (Client s) else Err Count))
+client_tests true script number server = client_room (nat_lt (client_count script.clients server) 16) script number server
+client_tests false script number server = refl
+
+begin_tests : (t : Bool) (script : Workload) (number : ℕ)
+    → judged (makes_if ((t, Count) ∷ []) (Programming script [])) ≡ leading (after_listing script number) (if t then Ok Begin else Err Count)
+begin_tests true script number = refl
+begin_tests false script number = refl
+
+-- the same with a stuck test in place
+abbrev listing_with : Bool → Bool → Workload → List Text → Result ListingLine Why
+listing_with sim some script [] = Err Word
+listing_with sim some script (word ∷ fields) =
+    if bytes_eq word (codes "client") then client_fields script fields
+    else if some && bytes_eq word (codes "begin") then begin_fields script fields
+    else if sim && bytes_eq word (codes "schedule") then and_then (no_fields fields) (λ u. Ok Schedule)
+    else Err Word
+
+abbrev forms_with : Bool → Bool → Workload → ℕ → List (LineForm Place)
+forms_with sim some script number = client_form script ∷ (if some then begin_form script ∷ [] else []) ++ (if sim then schedule_form number script ∷ [] else [])
+
+module _ (number : ℕ) (script : Workload) (fields : List Text) where
+  abbrev Lists : Bool → Bool → Text → Type 0
+  Lists sim some word = leading (after_listing script number) (listing_with sim some script (word ∷ fields)) ≡ read_line (forms_with sim some script number) (word ∷ fields)
+
+  abbrev one_client : ℕ → Result ℕ Why
+  one_client n = if is_within 1 script.servers n then Ok n else Err Range
+
+  abbrev with_room : ℕ → Result ListingLine Why
+  with_room s = if nat_lt (client_count script.clients s) 16 then Ok (Client s) else Err Count
+
+  client_read : leading (after_listing script number) (client_fields script fields) ≡ read_fields (client_form script ∷ []) fields
+  client_read = sym (read_one "client" _ fields
+      ∙ over (after_listing script number) (one_number fields) (λ s. makes_if ((is_within 1 script.servers s, Range) ∷ (nat_lt (client_count script.clients s) 16, Count) ∷ []) (Listing (with_client s script)))
+      (λ n. and_then (one_client n) with_room) (λ n. client_tests (is_within 1 script.servers n) script number n)
+      ∙ ap (leading (after_listing script number)) (joined (one_number fields) one_client with_room))
+
+  begin_read : leading (after_listing script number) (begin_fields script fields) ≡ read_fields (begin_form script ∷ []) fields
+  begin_read = sym (read_alone "begin" _ fields
+      ∙ over (after_listing script number) (no_fields fields) (λ u. makes_if ((nat_lt (last_program_count script.clients) 10000, Count) ∷ []) (Programming script []))
+      (λ u. if nat_lt (last_program_count script.clients) 10000 then Ok Begin else Err Count) (λ u. begin_tests (nat_lt (last_program_count script.clients) 10000) script number))
+
+  schedule_read : leading (after_listing script number) (and_then (no_fields fields) (λ u. Ok Schedule)) ≡ read_fields (schedule_form number script ∷ []) fields
+  schedule_read = sym (read_alone "schedule" _ fields ∙ over (after_listing script number) (no_fields fields) (λ u. makes (Scheduled script number)) (λ u. Ok Schedule) (λ u. refl))
+
+  client_leads : (sim some : Bool) → Lists sim some (codes "client")
+  client_leads true true = client_read
+  client_leads true false = client_read
+  client_leads false true = client_read
+  client_leads false false = client_read
+
+  begin_leads : (sim some : Bool) → Lists sim some (codes "begin")
+  begin_leads true true = begin_read
+  begin_leads true false = refl
+  begin_leads false true = begin_read
+  begin_leads false false = refl
+
+  schedule_leads : (sim some : Bool) → Lists sim some (codes "schedule")
+  schedule_leads true true = schedule_read
+  schedule_leads true false = schedule_read
+  schedule_leads false true = refl
+  schedule_leads false false = refl
+
+  module _ (word : Text) where
+    none_leads : (sim some : Bool) → bytes_eq word (codes "client") ≡ false → bytes_eq word (codes "begin") ≡ false → bytes_eq word (codes "schedule") ≡ false → Lists sim some word
+    none_leads true true a b c = rw (a, b, c) refl
+    none_leads true false a b c = rw (a, c) refl
+    none_leads false true a b c = rw (a, b) refl
+    none_leads false false a b c = rw a refl
+
+    list_schedule : (sim some t : Bool) → bytes_eq word (codes "client") ≡ false → bytes_eq word (codes "begin") ≡ false → bytes_eq word (codes "schedule") ≡ t → Lists sim some word
+    list_schedule sim some true a b c = subst (Lists sim some) (sym (named word (codes "schedule") c)) (schedule_leads sim some)
+    list_schedule sim some false a b c = none_leads sim some a b c
+
+    list_begin : (sim some t : Bool) → bytes_eq word (codes "client") ≡ false → bytes_eq word (codes "begin") ≡ t → Lists sim some word
+    list_begin sim some true a b = subst (Lists sim some) (sym (named word (codes "begin") b)) (begin_leads sim some)
+    list_begin sim some false a b = list_schedule sim some (bytes_eq word (codes "schedule")) a b refl
+
+    list_client : (sim some t : Bool) → bytes_eq word (codes "client") ≡ t → Lists sim some word
+    list_client sim some true a = subst (Lists sim some) (sym (named word (codes "client") a)) (client_leads sim some)
+    list_client sim some false a = list_begin sim some (bytes_eq word (codes "begin")) a refl
+
+pub listing_leads : (sim : Bool) (number : ℕ) (script : Workload) (words : List Text)
+    → leading (after_listing script number) (listing_line sim script words) ≡ read_line (forms_at sim (Listing script) number) words
+listing_leads sim number script [] = refl
+listing_leads sim number script (word ∷ fields) = list_client number script fields word sim (nat_lt 0 (length script.clients)) (bytes_eq word (codes "client")) refl

@@ -1,0 +1,224 @@
+-- What a script spells is read as that script.
+use Rattle.std.proofs.Common.{arith, ◌≡◌, ℕ, ◌+◌, ◌<◌, ◌≤◌, ◌==◌, Bool, true, cond, List, [], ◌∷◌, ◌++◌, length, refl, sym, ap, subst, ◌∙◌, append_assoc, append-nil, length-append}
+use Rattle.std.specs.Prelude.{map, flat_map, Result, Ok, Err, All, codes, decimal}
+use Rattle.std.specs.List.{AllByRecursion, join_with_byte}
+use Rattle.std.proofs.lemmas.Bool.Decides.{nat_tests}
+use Rattle.std.proofs.lemmas.Grind.{flat_map-append}
+use Rattle.std.proofs.lemmas.List.{map-append}
+use Rattle.std.proofs.lemmas.List.Elements.{All-head, All-tail}
+use Rattle.std.proofs.lemmas.List.Sums.{sum_by-append, sum_by-cons}
+use Rattle.hy_base.specs.declared.layout.Shape.{Shape}
+use Rattle.hy_base.specs.declared.workload.Command.{Command}
+use Rattle.hy_base.specs.declared.workload.Command.TheVariants.{Get, Put, Del, Add, Scan}
+use Rattle.hy_base.specs.declared.workload.Client.{Client}
+use Rattle.hy_base.specs.declared.workload.Program.{Program}
+use Rattle.hy_base.specs.Script.{Workload, IsClient, IsCommand, IsProgram, client_count}
+use Rattle.hy_base.specs.Shape.{IsGoodShape, IsWithin}
+use Rattle.hy_base.specs.Spelling.{Text}
+use Rattle.hy_script.specs.ForNow.{IsShapeForNow}
+use Rattle.hy_script.specs.Grammar.{Place, Outset, Shaped, Listing, Programming, change_last, gains_program, last_program_count, with_program}
+use Rattle.hy_script.specs.Laws.{ClientFits, FitsFields, IsSpellable, ProgramFits, ReadsItsSpelling}
+use Rattle.hy_script.specs.Lines.{lines_of, numbered_lines, words_of}
+use Rattle.hy_script.specs.Parts.{after_listing, after_program_line, leading}
+use Rattle.hy_script.specs.Reading.{place_after, place_after_all, refused}
+use Rattle.hy_script.specs.ScriptFields.{listing_line, program_line, servers_line, shape_line}
+use Rattle.hy_script.specs.Spelling.{client_lines, command_words, program_lines, script_lines, script_text, text_of_lines}
+use Rattle.hy_script.specs.declared.refused.Refused.{Refused}
+use Rattle.hy_script.specs.declared.why.Why.{Why}
+use Rattle.hy_script.proofs.Drafts.{change_last_is, last_program_count_is}
+use Rattle.hy_script.proofs.LinesAgain.{begin_again, client_again, command_again, servers_again, shape_again}
+use Rattle.hy_script.proofs.LinesSpelled.{IsSpeech, lines_first, numbered_first, visible_decimal, visible_value, words_spelled}
+use Rattle.hy_script.proofs.ProgramLines.{listing_leads, program_leads}
+use Rattle.hy_script.proofs.ReadLemmas.{whole}
+use Rattle.hy_script.proofs.ScriptLines.{served, servers_leads, shape_leads}
+
+-- lines of these words are cut as they stand, and lead from a place to another, whatever stands before and behind them
+pub record Walks (sim : Bool) (place : Place) (lines : List (List Text)) (last : Place) : Type 0 where
+  pub walk : (number : ℕ) (rest : Text) → place_after_all sim place (numbered_lines number (text_of_lines lines ++ rest)) ≡ place_after_all sim last (numbered_lines (number + length lines) rest)
+  pub cut : (rest : Text) → lines_of (text_of_lines lines ++ rest) ≡ map (join_with_byte 32) lines ++ lines_of rest
+
+stays : (sim : Bool) (place : Place) → Walks sim place [] place
+stays sim place = record {
+  walk = λ number rest. let same : number ≡ number + 0 = omega arith in ap (λ n. place_after_all sim place (numbered_lines n rest)) same;
+  cut = λ rest. refl;
+}
+
+joined_texts : (xs ys : List (List Text)) (rest : Text) → text_of_lines (xs ++ ys) ++ rest ≡ text_of_lines xs ++ (text_of_lines ys ++ rest)
+joined_texts xs ys rest = ap (λ t. t ++ rest) (flat_map-append _ xs ys) ∙ append_assoc (text_of_lines xs) (text_of_lines ys) rest
+
+then_walks : (sim : Bool) (place next last : Place) (xs ys : List (List Text)) → Walks sim place xs next → Walks sim next ys last → Walks sim place (xs ++ ys) last
+then_walks sim place next last xs ys first second = record {
+  walk = λ number rest.
+      let texts = joined_texts xs ys rest in
+      let counts : number + length xs + length ys ≡ number + length (xs ++ ys) = omega (arith, length-append xs ys) in
+      ap (λ t. place_after_all sim place (numbered_lines number t)) texts ∙ first.walk number (text_of_lines ys ++ rest) ∙ second.walk (number + length xs) rest
+      ∙ ap (λ n. place_after_all sim last (numbered_lines n rest)) counts;
+  cut = λ rest.
+      ap lines_of (joined_texts xs ys rest) ∙ first.cut (text_of_lines ys ++ rest) ∙ ap (λ l. map (join_with_byte 32) xs ++ l) (second.cut rest)
+      ∙ sym (append_assoc (map (join_with_byte 32) xs) (map (join_with_byte 32) ys) (lines_of rest)) ∙ ap (λ l. l ++ lines_of rest) (sym (map-append (join_with_byte 32) xs ys));
+}
+
+abbrev onto : Bool → ℕ → List (ℕ × Text) → Result Place Why → Result Place Refused
+onto sim number ps read = elim read [ Ok next ↦ place_after_all sim next ps | Err why ↦ refused number why ]
+
+pub one_line : (sim : Bool) (place last : Place) (words : List Text) → IsSpeech words → ((number : ℕ) (line : Text) → words_of line ≡ words → place_after sim place (number, line) ≡ Ok last) → Walks sim place (words ∷ []) last
+one_line sim place last words speech leads = record {
+  walk = λ number rest.
+      ap (place_after_all sim place) (numbered_first number words [] rest speech)
+      ∙ ap (onto sim number (numbered_lines (number + 1) rest)) (leads number (join_with_byte 32 words) (words_spelled words speech));
+  cut = λ rest. lines_first words [] rest speech;
+}
+
+-- what the lines of a place lead to, by their words
+
+shape_walks : (sim : Bool) (shape : Shape) → IsGoodShape shape → IsShapeForNow shape → Walks sim Outset ((codes "shape" ∷ decimal shape.group ∷ decimal shape.window ∷ decimal shape.cap ∷ []) ∷ []) (Shaped shape)
+shape_walks sim shape good now =
+    one_line sim Outset (Shaped shape) _
+    (record {
+      visible = (refl, (visible_decimal shape.group (omega (arith, good.group.at_most)), (visible_decimal shape.window (omega (arith, good.window.at_most)), (visible_decimal shape.cap (omega (arith, good.cap.at_most)), tt))));
+      says_some = refl;
+    })
+    (λ number line e. sym (shape_leads sim number (words_of line)) ∙ ap (leading Shaped) (ap shape_line e ∙ shape_again shape good now))
+
+servers_walk : (sim : Bool) (shape : Shape) (n : ℕ) → IsWithin 1 8 n → Walks sim (Shaped shape) ((codes "servers" ∷ decimal n ∷ []) ∷ []) (served shape n)
+servers_walk sim shape n within =
+    one_line sim (Shaped shape) (served shape n) _ (record { visible = (refl, (visible_decimal n (omega (arith, within.at_most)), tt)); says_some = refl })
+    (λ number line e. sym (servers_leads sim shape number (words_of line)) ∙ ap (leading (served shape)) (ap servers_line e ∙ servers_again n within))
+
+abbrev script_with : Workload → List Client → Workload
+script_with script cs = record { shape = script.shape; servers = script.servers; clients = cs }
+
+abbrev without_programs : ℕ → Client
+without_programs server = record { server = server; programs = [] }
+
+client_walks : (sim : Bool) (script : Workload) (front : List Client) (server : ℕ) → script.servers ≤ 8 → IsWithin 1 script.servers server → client_count front server < 16
+    → Walks sim (Listing (script_with script front)) ((codes "client" ∷ decimal server ∷ []) ∷ []) (Listing (script_with script (front ++ without_programs server ∷ [])))
+client_walks sim script front server few within room =
+    one_line sim (Listing (script_with script front)) (Listing (script_with script (front ++ without_programs server ∷ []))) _
+    (record { visible = (refl, (visible_decimal server (omega (arith, few, within.at_most)), tt)); says_some = refl })
+    (λ number line e. sym (listing_leads sim number (script_with script front) (words_of line))
+    ∙ ap (leading (after_listing (script_with script front) number)) (ap (listing_line sim (script_with script front)) e ∙ client_again sim (script_with script front) server few within room))
+
+begin_walks : (sim : Bool) (script : Workload) → 0 < length script.clients → last_program_count script.clients < 10000 → Walks sim (Listing script) ((codes "begin" ∷ []) ∷ []) (Programming script [])
+begin_walks sim script some room =
+    one_line sim (Listing script) (Programming script []) _ (record { visible = (refl, tt); says_some = refl })
+    (λ number line e. sym (listing_leads sim number script (words_of line)) ∙ ap (leading (after_listing script number)) (ap (listing_line sim script) e ∙ begin_again sim script some room))
+
+end_walks : (sim : Bool) (script : Workload) (commands : List Command) → Walks sim (Programming script commands) ((codes "end" ∷ []) ∷ []) (Listing (with_program commands script))
+end_walks sim script commands =
+    one_line sim (Programming script commands) (Listing (with_program commands script)) _ (record { visible = (refl, tt); says_some = refl })
+    (λ number line e. sym (program_leads sim number script commands (words_of line)) ∙ ap (leading (after_program_line script commands)) (ap (program_line (length commands)) e))
+
+-- commands, programs and clients
+
+command_speech : (command : Command) → FitsFields command → IsCommand command → IsSpeech (command_words command)
+command_speech (Get key) fits lawful = record { visible = (refl, (visible_decimal key fits, tt)); says_some = refl }
+command_speech (Put key value) fits lawful = record { visible = (refl, (visible_decimal key fits, (visible_value value lawful, tt))); says_some = refl }
+command_speech (Del key) fits lawful = record { visible = (refl, (visible_decimal key fits, tt)); says_some = refl }
+command_speech (Add key n) fits lawful = record { visible = (refl, (visible_decimal key fits.0, (visible_decimal n fits.1, tt))); says_some = refl }
+command_speech (Scan lo hi n) fits lawful = record {
+  visible = (refl, (visible_decimal lo (omega (arith, fits, lawful.0)), (visible_decimal hi fits, (visible_decimal n (omega (arith, lawful.1.at_most)), tt))));
+  says_some = refl;
+}
+
+command_walks : (sim : Bool) (script : Workload) (commands : List Command) (command : Command) → FitsFields command → IsCommand command → length commands < 64
+    → Walks sim (Programming script commands) (command_words command ∷ []) (Programming script (commands ++ command ∷ []))
+command_walks sim script commands command fits lawful room =
+    one_line sim (Programming script commands) (Programming script (commands ++ command ∷ [])) (command_words command) (command_speech command fits lawful)
+    (λ number line e. sym (program_leads sim number script commands (words_of line))
+    ∙ ap (leading (after_program_line script commands)) (ap (program_line (length commands)) e ∙ command_again (length commands) command fits lawful room))
+
+commands_walk : (sim : Bool) (script : Workload) (before commands : List Command) → AllByRecursion FitsFields commands → All IsCommand commands → length before + length commands ≤ 64
+    → Walks sim (Programming script before) (map command_words commands) (Programming script (before ++ commands))
+commands_walk sim script before [] fits lawful few = subst (λ l. Walks sim (Programming script before) [] (Programming script l)) (sym (append-nil before)) (stays sim (Programming script before))
+commands_walk sim script before (command ∷ commands) fits lawful few =
+    let more : length (before ++ command ∷ []) + length commands ≤ 64 = omega (arith, few, length-append before (command ∷ [])) in
+    let room : length before < 64 = omega (arith, few) in
+    subst (λ l. Walks sim (Programming script before) (map command_words (command ∷ commands)) (Programming script l)) (append_assoc before (command ∷ []) commands)
+    (then_walks sim (Programming script before) (Programming script (before ++ command ∷ [])) (Programming script ((before ++ command ∷ []) ++ commands)) (command_words command ∷ []) (map command_words commands)
+    (command_walks sim script before command fits.0 (All-head IsCommand command commands lawful) room)
+    (commands_walk sim script (before ++ command ∷ []) commands fits.1 (All-tail IsCommand command commands lawful) more))
+
+program_walks : (sim : Bool) (script : Workload) (program : Program) → ProgramFits program → IsProgram program → 0 < length script.clients → last_program_count script.clients < 10000
+    → Walks sim (Listing script) (program_lines program) (Listing (with_program program.commands script))
+program_walks sim script program fits lawful some room =
+    let commands = program.commands in
+    then_walks sim (Listing script) (Programming script []) (Listing (with_program commands script)) ((codes "begin" ∷ []) ∷ []) (map command_words commands ++ (codes "end" ∷ []) ∷ [])
+    (begin_walks sim script some room)
+    (then_walks sim (Programming script []) (Programming script commands) (Listing (with_program commands script)) (map command_words commands) ((codes "end" ∷ []) ∷ [])
+    (commands_walk sim script [] commands fits lawful.commands (omega (arith, lawful.count))) (end_walks sim script commands))
+
+abbrev with_programs : Client → List Program → Client
+with_programs c programs = record { server = c.server; programs = programs }
+
+programs_walk : (sim : Bool) (script : Workload) (front : List Client) (server : ℕ) (before programs : List Program) → AllByRecursion ProgramFits programs → All IsProgram programs
+    → length before + length programs ≤ 10000
+    → Walks sim (Listing (script_with script (front ++ record { server = server; programs = before } ∷ []))) (flat_map program_lines programs)
+    (Listing (script_with script (front ++ record { server = server; programs = before ++ programs } ∷ [])))
+programs_walk sim script front server before [] fits lawful few =
+    let place = Listing (script_with script (front ++ record { server = server; programs = before } ∷ [])) in
+    subst (λ l. Walks sim place [] (Listing (script_with script (front ++ record { server = server; programs = l } ∷ [])))) (sym (append-nil before)) (stays sim place)
+programs_walk sim script front server before (program ∷ programs) fits lawful few =
+    let client : Client = record { server = server; programs = before } in
+    let now = script_with script (front ++ client ∷ []) in
+    let next = front ++ record { server = server; programs = before ++ program ∷ [] } ∷ [] in
+    let more : length (before ++ program ∷ []) + length programs ≤ 10000 = omega (arith, few, length-append before (program ∷ [])) in
+    let some : 0 < length (front ++ client ∷ []) = omega (arith, length-append front (client ∷ [])) in
+    let room : last_program_count (front ++ client ∷ []) < 10000 = omega (arith, few, last_program_count_is front client) in
+    let changed : change_last (gains_program program.commands) (front ++ client ∷ []) ≡ next = change_last_is (gains_program program.commands) front client in
+    let last = Listing (script_with script (front ++ record { server = server; programs = before ++ program ∷ programs } ∷ [])) in
+    then_walks sim (Listing now) (Listing (script_with script next)) last (program_lines program) (flat_map program_lines programs)
+    (subst (λ l. Walks sim (Listing now) (program_lines program) (Listing (script_with script l))) changed
+    (program_walks sim now program fits.0 (All-head IsProgram program programs lawful) some room))
+    (subst (λ l. Walks sim (Listing (script_with script next)) (flat_map program_lines programs) (Listing (script_with script (front ++ record { server = server; programs = l } ∷ []))))
+    (append_assoc before (program ∷ []) programs)
+    (programs_walk sim script front server (before ++ program ∷ []) programs fits.1 (All-tail IsProgram program programs lawful) more))
+
+whole_client : (sim : Bool) (script : Workload) (front : List Client) (c : Client) → ClientFits c → IsClient script.servers c → script.servers ≤ 8 → client_count front c.server < 16
+    → Walks sim (Listing (script_with script front)) (client_lines c) (Listing (script_with script (front ++ c ∷ [])))
+whole_client sim script front c fits lawful few room =
+    then_walks sim (Listing (script_with script front)) (Listing (script_with script (front ++ without_programs c.server ∷ []))) (Listing (script_with script (front ++ c ∷ [])))
+    ((codes "client" ∷ decimal c.server ∷ []) ∷ []) (flat_map program_lines c.programs)
+    (client_walks sim script front c.server few lawful.server room)
+    (programs_walk sim script front c.server [] c.programs fits lawful.programs (omega (arith, lawful.count)))
+
+abbrev one_of : ℕ → Client → ℕ
+one_of k c = cond (c.server == k) 1 0
+
+itself : (c : Client) → one_of c.server c ≡ 1
+itself c = let same : (c.server == c.server) ≡ true = grind (arith, nat_tests) in ap (λ t. cond t 1 0) same
+
+has_room : (front cs : List Client) (c : Client) → client_count (front ++ c ∷ cs) c.server ≤ 16 → client_count front c.server < 16
+has_room front cs c few =
+    let all : client_count (front ++ c ∷ cs) c.server ≡ client_count front c.server + client_count (c ∷ cs) c.server = sum_by-append (one_of c.server) front (c ∷ cs) in
+    let first : client_count (c ∷ cs) c.server ≡ one_of c.server c + client_count cs c.server = sum_by-cons (one_of c.server) c cs in
+    omega (arith, few, all, first, itself c)
+
+clients_walk : (sim : Bool) (script : Workload) (front cs : List Client) → AllByRecursion ClientFits cs → All (IsClient script.servers) cs → script.servers ≤ 8 → ((k : ℕ) → client_count (front ++ cs) k ≤ 16)
+    → Walks sim (Listing (script_with script front)) (flat_map client_lines cs) (Listing (script_with script (front ++ cs)))
+clients_walk sim script front [] fits lawful few counts =
+    let place = Listing (script_with script front) in
+    subst (λ l. Walks sim place [] (Listing (script_with script l))) (sym (append-nil front)) (stays sim place)
+clients_walk sim script front (c ∷ cs) fits lawful few counts =
+    let all = append_assoc front (c ∷ []) cs in
+    then_walks sim (Listing (script_with script front)) (Listing (script_with script (front ++ c ∷ []))) (Listing (script_with script (front ++ c ∷ cs))) (client_lines c) (flat_map client_lines cs)
+    (whole_client sim script front c fits.0 (All-head (IsClient script.servers) c cs lawful) few (has_room front cs c (counts c.server)))
+    (subst (λ l. Walks sim (Listing (script_with script (front ++ c ∷ []))) (flat_map client_lines cs) (Listing (script_with script l))) all
+    (clients_walk sim script (front ++ c ∷ []) cs fits.1 (All-tail (IsClient script.servers) c cs lawful) few (λ k. subst (λ l. client_count l k ≤ 16) (sym all) (counts k))))
+
+pub script_walks : (sim : Bool) (script : Workload) → IsSpellable script → Walks sim Outset (script_lines script) (Listing script)
+script_walks sim script s =
+    let shape = script.shape in
+    then_walks sim Outset (Shaped shape) (Listing script) ((codes "shape" ∷ decimal shape.group ∷ decimal shape.window ∷ decimal shape.cap ∷ []) ∷ [])
+    ((codes "servers" ∷ decimal script.servers ∷ []) ∷ flat_map client_lines script.clients)
+    (shape_walks sim shape s.lawful.shape s.for_now)
+    (then_walks sim (Shaped shape) (served shape script.servers) (Listing script) ((codes "servers" ∷ decimal script.servers ∷ []) ∷ []) (flat_map client_lines script.clients)
+    (servers_walk sim shape script.servers s.lawful.servers)
+    (clients_walk sim script [] script.clients s.clients s.lawful.clients s.lawful.servers.at_most s.lawful.client_count))
+
+pub reads_scripts : ReadsItsSpelling
+reads_scripts script sim s short =
+    let text = script_text script in
+    let walked : place_after_all sim Outset (numbered_lines 1 text) ≡ Ok (Listing script) =
+    ap (λ t. place_after_all sim Outset (numbered_lines 1 t)) (sym (append-nil text)) ∙ (script_walks sim script s).walk 1 [] in
+    whole sim text (Ok (Listing script)) short walked

@@ -1,0 +1,337 @@
+-- From what a script was read as, to the words of its lines.
+use Rattle.std.proofs.Common.{arith, ◌≡◌, ℕ, ◌<◌, Bool, true, false, List, [], ◌∷◌, ◌++◌, length, refl, sym, ap, subst, ◌∙◌, append_assoc, append-nil, if◌then◌else◌, nat_lt}
+use Rattle.std.specs.Prelude.{map, flat_map, Some, None, Result, Ok, Err, IfOk, codes, decimal, ⊤}
+use Rattle.std.specs.List.{AllByRecursion}
+use Rattle.hy_base.specs.declared.layout.Shape.{Shape}
+use Rattle.hy_base.specs.declared.workload.Command.{Command}
+use Rattle.hy_base.specs.declared.workload.Client.{Client}
+use Rattle.hy_base.specs.Script.{Workload, IsProgram, IsScript, client_count}
+use Rattle.hy_base.specs.Shape.{IsGoodShape, IsWithin}
+use Rattle.hy_base.specs.Spelling.{Text}
+use Rattle.hy_script.specs.ForNow.{IsShapeForNow}
+use Rattle.hy_script.specs.Grammar.{Place, Outset, Shaped, Listing, Programming, Scheduled, change_last, gains_program, last_program_count, with_client, with_program}
+use Rattle.hy_script.specs.Laws.{ClientFits, FitsFields, IsSaidBy, IsSpellable, ProgramFits, SpellsWhatItReads, words_by_line}
+use Rattle.hy_script.specs.Lines.{numbered_lines, words_of}
+use Rattle.hy_script.specs.Outcome.{Reads}
+use Rattle.hy_script.specs.Parts.{after_listing, after_program_line, leading}
+use Rattle.hy_script.specs.Reading.{ended, place_after, place_after_all, read_script, refused, start_after}
+use Rattle.hy_script.specs.ScriptFields.{listing_line, program_line, servers_line, shape_line}
+use Rattle.hy_script.specs.Spelling.{client_lines, command_words, program_lines, script_lines}
+use Rattle.hy_script.specs.declared.refused.ReadError.{ReadError}
+use Rattle.hy_script.specs.declared.refused.Reading.{Reading}
+use Rattle.hy_script.specs.declared.refused.Refused.{Refused}
+use Rattle.hy_script.specs.declared.script.ListingLine.{ListingLine}
+use Rattle.hy_script.specs.declared.script.ListingLine.TheVariants.{Client as ClientLine, Begin, Schedule}
+use Rattle.hy_script.specs.declared.script.ProgramLine.{ProgramLine}
+use Rattle.hy_script.specs.declared.script.ProgramLine.TheVariants.{Next, End}
+use Rattle.hy_script.specs.declared.why.Why.{Why}
+use Rattle.hy_script.proofs.Drafts.{change_last_is, client_kept, last_program_count_is, program_kept}
+use Rattle.hy_script.proofs.LinesRead.{IsListingLine, IsProgramLine, listing_was, program_was, servers_was, shape_was}
+use Rattle.hy_script.proofs.PlaceLemmas.{next_kept}
+use Rattle.hy_script.proofs.ProgramLines.{listing_leads, program_leads}
+use Rattle.hy_script.proofs.ReadLemmas.{scheduled}
+use Rattle.hy_script.proofs.ScriptLines.{served, servers_leads, shape_leads}
+
+-- lists that grow
+
+pub flat_map_push : {A B : Type 0} (f : A → List B) (xs : List A) (x : A) → flat_map f (xs ++ x ∷ []) ≡ flat_map f xs ++ f x
+flat_map_push f [] x = append-nil (f x)
+flat_map_push f (y ∷ ys) x = ap (λ l. f y ++ l) (flat_map_push f ys x) ∙ sym (append_assoc (f y) (flat_map f ys) (f x))
+
+map_push : {A B : Type 0} (f : A → B) (xs : List A) (x : A) → map f (xs ++ x ∷ []) ≡ map f xs ++ f x ∷ []
+map_push f [] x = refl
+map_push f (y ∷ ys) x = ap (λ l. f y ∷ l) (map_push f ys x)
+
+pub all_push : {A : Type 0} (P : A → Type 0) (xs : List A) (x : A) → AllByRecursion P xs → P x → AllByRecursion P (xs ++ x ∷ [])
+all_push P [] x all one = (one, tt)
+all_push P (y ∷ ys) x all one = (all.0, all_push P ys x all.1 one)
+
+-- what was said so far, and what is known of it
+
+abbrev said : Place → List (List Text)
+said Outset = []
+said (Shaped shape) = (codes "shape" ∷ decimal shape.group ∷ decimal shape.window ∷ decimal shape.cap ∷ []) ∷ []
+said (Listing script) = script_lines script
+said (Programming script commands) = script_lines script ++ (codes "begin" ∷ []) ∷ map command_words commands
+said (Scheduled script start) = script_lines script
+
+record IsOpen (script : Workload) (commands : List Command) : Type 0 where
+  pub script_is : IsSpellable script
+  pub some : 0 < length script.clients
+  pub room : last_program_count script.clients < 10000
+  pub lawful : IsProgram (record { commands = commands })
+  pub fits : AllByRecursion FitsFields commands
+
+abbrev IsReached : Place → Type 0
+IsReached Outset = ⊤
+IsReached (Shaped shape) = IsGoodShape shape × IsShapeForNow shape
+IsReached (Listing script) = IsSpellable script
+IsReached (Programming script commands) = IsOpen script commands
+IsReached (Scheduled script start) = IsSpellable script
+
+-- the place after a line, which isn't the schedule's
+abbrev Adds : List (List Text) → Text → Place → Type 0
+Adds before line place = IsReached place × (said place ≡ before ++ words_of line ∷ [])
+
+record IsScheduleLine (before : List (List Text)) (p : ℕ × Text) (script : Workload) (start : ℕ) : Type 0 where
+  pub script_is : IsSpellable script
+  pub whole : script_lines script ≡ before
+  pub number : start ≡ p.0
+  pub word : words_of p.1 ≡ codes "schedule" ∷ []
+
+abbrev Follows : List (List Text) → ℕ × Text → Place → Type 0
+Follows before p Outset = Adds before p.1 Outset
+Follows before p (Shaped shape) = Adds before p.1 (Shaped shape)
+Follows before p (Listing script) = Adds before p.1 (Listing script)
+Follows before p (Programming script commands) = Adds before p.1 (Programming script commands)
+Follows before p (Scheduled script start) = IsScheduleLine before p script start
+
+leading_was : {A : Type 0} (place : A → Place) (read : Result A Why) (next : Place) → leading place read ≡ Ok next → (a : A) × (read ≡ Ok a) × (place a ≡ next)
+leading_was place (Ok a) next e = (a, refl, cc (e))
+leading_was place (Err why) next e = cc
+
+module _ (sim : Bool) (p : ℕ × Text) (next : Place) where
+  from_outset : place_after sim Outset p ≡ Ok next → Follows [] p next
+  from_outset e =
+      let step = leading_was Shaped (shape_line (words_of p.1)) next (shape_leads sim p.0 (words_of p.1) ∙ e) in
+      let was = shape_was (words_of p.1) step.0 step.1 in
+      subst (Follows [] p) step.2 ((was.good, was.for_now), ap (λ w. w ∷ []) (sym was.are))
+
+  from_shaped : (shape : Shape) → IsGoodShape shape → IsShapeForNow shape → place_after sim (Shaped shape) p ≡ Ok next → Follows (said (Shaped shape)) p next
+  from_shaped shape good now e =
+      let step = leading_was (served shape) (servers_line (words_of p.1)) next (servers_leads sim shape p.0 (words_of p.1) ∙ e) in
+      let was = servers_was (words_of p.1) step.0 step.1 in
+      let lawful : IsScript (record { shape = shape; servers = step.0; clients = [] }) =
+      record { shape = good; servers = was.1; clients = λ k d below. absurd (omega (arith, below)); client_count = λ k. omega arith } in
+      subst (Follows (said (Shaped shape)) p) step.2 (record { lawful = lawful; clients = tt; for_now = now }, ap (λ w. said (Shaped shape) ++ w ∷ []) (sym was.0))
+
+-- between programs
+
+spellable_client : (script : Workload) (server : ℕ) → IsSpellable script → IsWithin 1 script.servers server → client_count script.clients server < 16 → IsSpellable (with_client server script)
+spellable_client script server s within room = record {
+  lawful = client_kept script.shape script.servers server script.clients s.lawful within room;
+  clients = all_push ClientFits script.clients (record { server = server; programs = [] }) s.clients tt;
+  for_now = s.for_now;
+}
+
+client_said : (script : Workload) (server : ℕ) (words : List Text) → words ≡ codes "client" ∷ decimal server ∷ [] → script_lines (with_client server script) ≡ script_lines script ++ words ∷ []
+client_said script server words are =
+    ap (λ l. script_lines (record { shape = script.shape; servers = script.servers; clients = [] }) ++ l) (flat_map_push client_lines script.clients (record { server = server; programs = [] }))
+    ∙ ap (λ w. script_lines script ++ w ∷ []) (sym are)
+
+listed : (script : Workload) (p : ℕ × Text) (read : ListingLine) → IsSpellable script → IsListingLine script (words_of p.1) read → Follows (script_lines script) p (after_listing script p.0 read)
+listed script p (ClientLine server) s was = (spellable_client script server s was.1 was.2, client_said script server (words_of p.1) was.0)
+listed script p Begin s was = (
+  record { script_is = s; some = was.1; room = was.2; lawful = record { count = omega arith; commands = λ k d below. absurd (omega (arith, below)) }; fits = tt },
+  ap (λ w. script_lines script ++ w ∷ []) (sym was.0),
+)
+listed script p Schedule s was = record { script_is = s; whole = refl; number = refl; word = was }
+
+from_listing : (sim : Bool) (p : ℕ × Text) (next : Place) (script : Workload) → IsSpellable script → place_after sim (Listing script) p ≡ Ok next → Follows (said (Listing script)) p next
+from_listing sim p next script s e =
+    let step = leading_was (after_listing script p.0) (listing_line sim script (words_of p.1)) next (listing_leads sim p.0 script (words_of p.1) ∙ e) in
+    subst (Follows (script_lines script) p) step.2 (listed script p step.0 s (listing_was sim script (words_of p.1) step.0 step.1))
+
+-- in a program
+
+gained_lines : (commands : List Command) (c : Client) → client_lines (gains_program commands c) ≡ client_lines c ++ program_lines (record { commands = commands })
+gained_lines commands c = ap (λ l. (codes "client" ∷ decimal c.server ∷ []) ∷ l) (flat_map_push program_lines c.programs (record { commands = commands }))
+
+changed_lines : (commands : List Command) (cs : List Client) → 0 < length cs
+    → flat_map client_lines (change_last (gains_program commands) cs) ≡ flat_map client_lines cs ++ program_lines (record { commands = commands })
+changed_lines commands [] some = absurd (omega (arith, some))
+changed_lines commands (c ∷ []) some =
+    append-nil (client_lines (gains_program commands c)) ∙ gained_lines commands c ∙ ap (λ l. l ++ program_lines (record { commands = commands })) (sym (append-nil (client_lines c)))
+changed_lines commands (c ∷ d ∷ cs) some =
+    ap (λ l. client_lines c ++ l) (changed_lines commands (d ∷ cs) (omega arith))
+    ∙ sym (append_assoc (client_lines c) (flat_map client_lines (d ∷ cs)) (program_lines (record { commands = commands })))
+
+changed_fits : (commands : List Command) (cs : List Client) → AllByRecursion FitsFields commands → AllByRecursion ClientFits cs → AllByRecursion ClientFits (change_last (gains_program commands) cs)
+changed_fits commands [] fits all = tt
+changed_fits commands (c ∷ []) fits all = (all_push ProgramFits c.programs (record { commands = commands }) all.0 fits, tt)
+changed_fits commands (c ∷ d ∷ cs) fits all = (all.0, changed_fits commands (d ∷ cs) fits all.1)
+
+last_of : (cs : List Client) → 0 < length cs → (front : List Client) × (c : Client) × (cs ≡ front ++ c ∷ [])
+last_of [] some = absurd (omega (arith, some))
+last_of (c ∷ []) some = ([], c, refl)
+last_of (c ∷ d ∷ cs) some = let more = last_of (d ∷ cs) (omega arith) in (c ∷ more.0, more.1, ap (λ l. c ∷ l) more.2)
+
+abbrev script_with : Workload → List Client → Workload
+script_with script cs = record { shape = script.shape; servers = script.servers; clients = cs }
+
+program_lawful : (script : Workload) (commands : List Command) → IsScript script → IsOpen script commands → IsScript (with_program commands script)
+program_lawful script commands lawful s =
+    let last = last_of script.clients s.some in
+    let room : length last.1.programs < 10000 = omega (arith, s.room, ap last_program_count last.2, last_program_count_is last.0 last.1) in
+    subst (λ cs. IsScript (script_with script cs)) (sym (ap (change_last (gains_program commands)) last.2 ∙ change_last_is (gains_program commands) last.0 last.1))
+    (program_kept script.shape script.servers last.0 last.1 commands (subst (λ cs. IsScript (script_with script cs)) last.2 lawful) room s.lawful)
+
+spellable_program : (script : Workload) (commands : List Command) → IsOpen script commands → IsSpellable (with_program commands script)
+spellable_program script commands s = record {
+  lawful = program_lawful script commands s.script_is.lawful s;
+  clients = changed_fits commands script.clients s.fits s.script_is.clients;
+  for_now = s.script_is.for_now;
+}
+
+program_said : (script : Workload) (commands : List Command) (words : List Text) → 0 < length script.clients → words ≡ codes "end" ∷ []
+    → script_lines (with_program commands script) ≡ (script_lines script ++ (codes "begin" ∷ []) ∷ map command_words commands) ++ words ∷ []
+program_said script commands words some are =
+    ap (λ l. script_lines (script_with script []) ++ l) (changed_lines commands script.clients some)
+    ∙ sym (append_assoc (script_lines script) ((codes "begin" ∷ []) ∷ map command_words commands) ((codes "end" ∷ []) ∷ []))
+    ∙ ap (λ w. (script_lines script ++ (codes "begin" ∷ []) ∷ map command_words commands) ++ w ∷ []) (sym are)
+
+command_said : (script : Workload) (commands : List Command) (command : Command) (words : List Text) → words ≡ command_words command
+    → script_lines script ++ (codes "begin" ∷ []) ∷ map command_words (commands ++ command ∷ []) ≡ (script_lines script ++ (codes "begin" ∷ []) ∷ map command_words commands) ++ words ∷ []
+command_said script commands command words are =
+    ap (λ l. script_lines script ++ (codes "begin" ∷ []) ∷ l) (map_push command_words commands command)
+    ∙ sym (append_assoc (script_lines script) ((codes "begin" ∷ []) ∷ map command_words commands) (command_words command ∷ []))
+    ∙ ap (λ w. (script_lines script ++ (codes "begin" ∷ []) ∷ map command_words commands) ++ w ∷ []) (sym are)
+
+programmed : (script : Workload) (commands : List Command) (p : ℕ × Text) (read : ProgramLine) → IsOpen script commands → IsProgramLine (length commands) (words_of p.1) read
+    → Follows (said (Programming script commands)) p (after_program_line script commands read)
+programmed script commands p (Next command) s was = (
+  record {
+    script_is = s.script_is;
+    some = s.some;
+    room = s.room;
+    lawful = next_kept commands (commands ++ command ∷ []) command s.lawful was.lawful was.room refl;
+    fits = all_push FitsFields commands command s.fits was.fits;
+  },
+  command_said script commands command (words_of p.1) was.are,
+)
+programmed script commands p End s was = (spellable_program script commands s, program_said script commands (words_of p.1) s.some was)
+
+from_programming : (sim : Bool) (p : ℕ × Text) (next : Place) (script : Workload) (commands : List Command) → IsOpen script commands → place_after sim (Programming script commands) p ≡ Ok next
+    → Follows (said (Programming script commands)) p next
+from_programming sim p next script commands s e =
+    let step = leading_was (after_program_line script commands) (program_line (length commands) (words_of p.1)) next (program_leads sim p.0 script commands (words_of p.1) ∙ e) in
+    subst (Follows (said (Programming script commands)) p) step.2 (programmed script commands p step.0 s (program_was (length commands) (words_of p.1) step.0 step.1))
+
+-- all lines
+
+abbrev IsUnscheduled : Place → Type 0
+IsUnscheduled Outset = ⊤
+IsUnscheduled (Shaped shape) = ⊤
+IsUnscheduled (Listing script) = ⊤
+IsUnscheduled (Programming script commands) = ⊤
+IsUnscheduled (Scheduled script start) = ⊥
+
+step_was : (sim : Bool) (p : ℕ × Text) (place next : Place) → IsUnscheduled place → IsReached place → place_after sim place p ≡ Ok next → Follows (said place) p next
+step_was sim p Outset next going reached e = from_outset sim p next e
+step_was sim p (Shaped shape) next going reached e = from_shaped sim p next shape reached.0 reached.1 e
+step_was sim p (Listing script) next going reached e = from_listing sim p next script reached e
+step_was sim p (Programming script commands) next going reached e = from_programming sim p next script commands reached e
+step_was sim p (Scheduled script start) next going reached e = absurd going
+
+record HasSchedule (before : List (List Text)) (ps : List (ℕ × Text)) (script : Workload) (start : ℕ) : Type 0 where
+  pub front : List (ℕ × Text)
+  pub line : Text
+  pub rest : List (ℕ × Text)
+  pub lines : ps ≡ front ++ (start, line) ∷ rest
+  pub whole : script_lines script ≡ before ++ words_by_line front
+  pub word : words_of line ≡ codes "schedule" ∷ []
+
+abbrev Ends : List (List Text) → List (ℕ × Text) → Place → Type 0
+Ends before ps Outset = said Outset ≡ before ++ words_by_line ps
+Ends before ps (Shaped shape) = said (Shaped shape) ≡ before ++ words_by_line ps
+Ends before ps (Listing script) = said (Listing script) ≡ before ++ words_by_line ps
+Ends before ps (Programming script commands) = said (Programming script commands) ≡ before ++ words_by_line ps
+Ends before ps (Scheduled script start) = HasSchedule before ps script start
+
+abbrev Concludes : List (List Text) → List (ℕ × Text) → Place → Type 0
+Concludes before ps last = IsReached last × Ends before ps last
+
+more_words : (before so_far : List (List Text)) (p : ℕ × Text) (ps : List (ℕ × Text)) → so_far ≡ before ++ words_of p.1 ∷ [] → so_far ++ words_by_line ps ≡ before ++ words_by_line (p ∷ ps)
+more_words before so_far p ps e = ap (λ l. l ++ words_by_line ps) e ∙ append_assoc before (words_of p.1 ∷ []) (words_by_line ps)
+
+ends_more : (before so_far : List (List Text)) (p : ℕ × Text) (ps : List (ℕ × Text)) (last : Place) → so_far ≡ before ++ words_of p.1 ∷ [] → Ends so_far ps last → Ends before (p ∷ ps) last
+ends_more before so_far p ps Outset e ends = ends ∙ more_words before so_far p ps e
+ends_more before so_far p ps (Shaped shape) e ends = ends ∙ more_words before so_far p ps e
+ends_more before so_far p ps (Listing script) e ends = ends ∙ more_words before so_far p ps e
+ends_more before so_far p ps (Programming script commands) e ends = ends ∙ more_words before so_far p ps e
+ends_more before so_far p ps (Scheduled script start) e ends = record {
+  front = p ∷ ends.front;
+  line = ends.line;
+  rest = ends.rest;
+  lines = ap (λ l. p ∷ l) ends.lines;
+  whole = ends.whole ∙ more_words before so_far p ends.front e;
+  word = ends.word;
+}
+
+ends_at : (place : Place) → IsUnscheduled place → Ends (said place) [] place
+ends_at Outset going = refl
+ends_at (Shaped shape) going = refl
+ends_at (Listing script) going = sym (append-nil (script_lines script))
+ends_at (Programming script commands) going = sym (append-nil (said (Programming script commands)))
+ends_at (Scheduled script start) going = absurd going
+
+scheduled_at : (before : List (List Text)) (p : ℕ × Text) (ps : List (ℕ × Text)) (script : Workload) (start : ℕ) (last : Place) → IsScheduleLine before p script start → Scheduled script start ≡ last → Concludes before (p ∷ ps) last
+scheduled_at before p ps script start last s e =
+    let line : ℕ × Text = (p.0, p.1) in
+    let numbered : ℕ × Text = (start, p.1) in
+    let same : line ≡ numbered = ap {B = ℕ × Text} (λ n. (n, p.1)) (sym s.number) in
+    subst (Concludes before (p ∷ ps)) e
+    (s.script_is, record { front = []; line = p.1; rest = ps; lines = ap (λ q. q ∷ ps) same; whole = s.whole ∙ sym (append-nil before); word = s.word })
+
+abbrev Rest : Bool → List (ℕ × Text) → Place → Type 0
+Rest sim ps last = (place : Place) → IsUnscheduled place → IsReached place → place_after_all sim place ps ≡ Ok last → Concludes (said place) ps last
+
+onward : (sim : Bool) (before : List (List Text)) (p : ℕ × Text) (ps : List (ℕ × Text)) (next last : Place) → Rest sim ps last → Follows before p next → place_after_all sim next ps ≡ Ok last → Concludes before (p ∷ ps) last
+onward sim before p ps Outset last rest f e = let c = rest Outset tt f.0 e in (c.0, ends_more before (said Outset) p ps last f.1 c.1)
+onward sim before p ps (Shaped shape) last rest f e = let c = rest (Shaped shape) tt f.0 e in (c.0, ends_more before (said (Shaped shape)) p ps last f.1 c.1)
+onward sim before p ps (Listing script) last rest f e = let c = rest (Listing script) tt f.0 e in (c.0, ends_more before (said (Listing script)) p ps last f.1 c.1)
+onward sim before p ps (Programming script commands) last rest f e =
+    let c = rest (Programming script commands) tt f.0 e in (c.0, ends_more before (said (Programming script commands)) p ps last f.1 c.1)
+onward sim before p ps (Scheduled script start) last rest f e =
+    let same : Scheduled script start ≡ last = cc (scheduled sim script start ps, e) in
+    scheduled_at before p ps script start last f same
+
+abbrev then_all : Bool → ℕ → List (ℕ × Text) → Result Place Why → Result Place Refused
+then_all sim number ps read = elim read [ Ok next ↦ place_after_all sim next ps | Err why ↦ refused number why ]
+
+then_was : (sim : Bool) (number : ℕ) (ps : List (ℕ × Text)) (read : Result Place Why) (last : Place) → then_all sim number ps read ≡ Ok last → (next : Place) × (read ≡ Ok next) × (place_after_all sim next ps ≡ Ok last)
+then_was sim number ps (Ok next) last e = (next, refl, e)
+then_was sim number ps (Err why) last e = cc
+
+all_was : (sim : Bool) (ps : List (ℕ × Text)) (last : Place) → Rest sim ps last
+all_was sim [] last place going reached e = let same : place ≡ last = cc (e) in subst (Concludes (said place) []) same (reached, ends_at place going)
+all_was sim (p ∷ ps) last place going reached e =
+    let step = then_was sim p.0 ps (place_after sim place p) last e in
+    onward sim (said place) p ps step.0 last (all_was sim ps last) (step_was sim p place step.0 going reached step.1) step.2
+
+-- the whole source
+
+not_long : {B E : Type 0} (t : Bool) (x : Result B E) (y : E) (b : B) → (if t then Err y else x) ≡ Ok b → x ≡ Ok b
+not_long true x y b e = cc
+not_long false x y b e = e
+
+abbrev finished : Text → Result Place Refused → Result Reading Refused
+finished bytes read = elim read [ Ok place ↦ ended bytes place | Err fault ↦ Err fault ]
+
+finished_was : (bytes : Text) (read : Result Place Refused) (reading : Reading) → finished bytes read ≡ Ok reading → (place : Place) × (read ≡ Ok place) × (ended bytes place ≡ Ok reading)
+finished_was bytes (Ok place) reading e = (place, refl, e)
+finished_was bytes (Err fault) reading e = cc
+
+abbrev IsSpelled : List (ℕ × Text) → Reading → Type 0
+IsSpelled lines reading = IsSpellable reading.script × IsSaidBy reading.schedule reading.script lines
+
+ended_was : (bytes : Text) (lines : List (ℕ × Text)) (last : Place) (reading : Reading) → Concludes [] lines last → ended bytes last ≡ Ok reading → IsSpelled lines reading
+ended_was bytes lines Outset reading c e = cc (e)
+ended_was bytes lines (Shaped shape) reading c e = cc (e)
+ended_was bytes lines (Programming script commands) reading c e = cc (e)
+ended_was bytes lines (Listing script) reading c e =
+    let same : record { script = script; schedule = None } ≡ reading = cc (e) in
+    subst (IsSpelled lines) same (c.0, sym c.1)
+ended_was bytes lines (Scheduled script start) reading c e =
+    let same : record { script = script; schedule = Some (start_after start bytes) } ≡ reading = cc (e) in
+    subst (IsSpelled lines) same (c.0, (c.1.front, start, c.1.line, c.1.rest, c.1.lines, sym c.1.whole, c.1.word, refl))
+
+pub spells_scripts : SpellsWhatItReads
+spells_scripts bytes sim reading e =
+    let read = not_long (nat_lt 16777216 (length bytes)) (finished bytes (place_after_all sim Outset (numbered_lines 1 bytes))) _ reading e in
+    let was = finished_was bytes (place_after_all sim Outset (numbered_lines 1 bytes)) reading read in
+    ended_was bytes (numbered_lines 1 bytes) was.0 reading (all_was sim (numbered_lines 1 bytes) was.0 Outset tt tt was.1) was.2
+
+pub spellable : (sim : Bool) (bytes : Text) (result : Result Reading ReadError) → Reads (λ reading. reading) result (read_script bytes sim) → IfOk result (λ reading. IsSpellable reading.script)
+spellable sim bytes (Ok reading) told = (spells_scripts bytes sim reading told).0
+spellable sim bytes (Err e) told = tt

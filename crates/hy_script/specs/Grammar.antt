@@ -1,0 +1,141 @@
+-- The lines of a script and of a schedule: which may stand where, and what each of them makes.
+use Rattle.std.specs.Prelude.{ℕ, ◌%◌, Bool, ◌&&◌, List, [], ◌∷◌, ◌++◌, length, nat_lt, nat_le, ◌==◌, if◌then◌else◌, Result, Err}
+use Rattle.hy_base.specs.declared.layout.Shape.{Shape}
+use Rattle.hy_base.specs.declared.workload.Command.{Command}
+use Rattle.hy_base.specs.declared.workload.Command.TheVariants.{Get, Put, Del, Add, Scan}
+use Rattle.hy_base.specs.declared.workload.Client.{Client}
+use Rattle.hy_base.specs.declared.workload.Event.{Event}
+use Rattle.hy_base.specs.declared.workload.Event.TheVariants.{Begin, Append, End, Refuse, Pad, Publish, Stop}
+use Rattle.hy_base.specs.Script.{Workload, client_count}
+use Rattle.hy_base.specs.Shape.{is_within}
+use Rattle.hy_base.specs.Value.{is_value}
+use Rattle.hy_base.specs.Spelling.{Text}
+use Rattle.hy_script.specs.ForNow.{is_shape_for_now, is_event_for_now}
+use Rattle.hy_script.specs.Forms.{Meaning, LineForm, Alone, OneNumber, TwoNumbers, ThreeNumbers, NumberAndText, read_line}
+use Rattle.hy_script.specs.declared.why.Why.{Why}
+use Rattle.hy_script.specs.declared.why.Why.TheVariants.{Word, Value, Range, Order, Count}
+
+-- Where a reading stands: what was read, by what may come next.
+pub data Place : Type 0 where
+  -- nothing
+  Outset : Place
+  -- the shape
+  Shaped : Shape → Place
+  -- the servers too, and any number of whole clients and programs
+  Listing : Workload → Place
+  -- and a program's commands so far
+  Programming : Workload → List Command → Place
+  -- all, and the number of the line 'schedule'
+  Scheduled : Workload → ℕ → Place
+
+-- nothing is asked; or these tests, in the order of their causes
+abbrev pub makes : {T : Type 0} → T → Meaning T
+makes made = record { tests = []; made = made }
+
+abbrev pub makes_if : {T : Type 0} → List (Bool × Why) → T → Meaning T
+makes_if tests made = record { tests = tests; made = made }
+
+-- how many programs the last client has
+abbrev pub last_program_count : List Client → ℕ
+last_program_count [] = 0
+last_program_count (c ∷ []) = length c.programs
+last_program_count (c ∷ d ∷ clients) = last_program_count (d ∷ clients)
+
+abbrev pub with_client : ℕ → Workload → Workload
+with_client server script = record script { clients = script.clients ++ record { server = server; programs = [] } ∷ [] }
+
+-- the last item changed
+abbrev pub change_last : {X : Type 0} → (X → X) → List X → List X
+change_last f [] = []
+change_last f (x ∷ []) = f x ∷ []
+change_last f (x ∷ y ∷ xs) = x ∷ change_last f (y ∷ xs)
+
+abbrev pub gains_program : List Command → Client → Client
+gains_program commands c = record c { programs = c.programs ++ record { commands = commands } ∷ [] }
+
+-- the last client gains a program
+abbrev pub with_program : List Command → Workload → Workload
+with_program commands script = record script { clients = change_last (gains_program commands) script.clients }
+
+-- the ranges of a shape: whole groups of 1 to 8 up to the capacity, and windows of 1 to 64
+abbrev pub is_shape : ℕ → ℕ → ℕ → Bool
+is_shape group window cap =
+    is_shape_for_now group window &&
+    (is_within 1 8 group && (is_within 1 64 window && (is_within group 2147483648 cap && (cap % group == 0))))
+
+-- shape G W CAP
+abbrev pub shape_form : LineForm Place
+shape_form = ThreeNumbers "shape" (λ group window cap.
+    makes_if ((is_shape group window cap, Range) ∷ []) (Shaped (record { group = group; window = window; cap = cap })))
+
+-- servers S
+abbrev pub servers_form : Shape → LineForm Place
+servers_form shape = OneNumber "servers" (λ servers.
+    makes_if ((is_within 1 8 servers, Range) ∷ []) (Listing (record { shape = shape; servers = servers; clients = [] })))
+
+-- client S
+abbrev pub client_form : Workload → LineForm Place
+client_form script = OneNumber "client" (λ server.
+    makes_if ((is_within 1 script.servers server, Range) ∷ (nat_lt (client_count script.clients server) 16, Count) ∷ []) (Listing (with_client server script)))
+
+-- begin
+abbrev pub begin_form : Workload → LineForm Place
+begin_form script = Alone "begin" (makes_if ((nat_lt (last_program_count script.clients) 10000, Count) ∷ []) (Programming script []))
+
+-- end
+abbrev pub end_form : Workload → List Command → LineForm Place
+end_form script commands = Alone "end" (makes (Listing (with_program commands script)))
+
+-- schedule, on this line
+abbrev pub schedule_form : ℕ → Workload → LineForm Place
+schedule_form number script = Alone "schedule" (makes (Scheduled script number))
+
+-- a further command of a program, with tests of its own
+abbrev pub gains : Workload → List Command → Command → List (Bool × Why) → Meaning Place
+gains script commands command tests = makes_if (tests ++ (nat_lt (length commands) 64, Count) ∷ []) (Programming script (commands ++ command ∷ []))
+
+-- get K, put K V, del K, add K N, scan LO HI N
+abbrev pub command_forms : Workload → List Command → List (LineForm Place)
+command_forms script commands =
+    OneNumber "get" (λ key. gains script commands (Get key) [])
+    ∷ NumberAndText "put" (λ key value. gains script commands (Put key value) ((is_value value, Value) ∷ []))
+    ∷ OneNumber "del" (λ key. gains script commands (Del key) [])
+    ∷ TwoNumbers "add" (λ key n. gains script commands (Add key n) [])
+    ∷ ThreeNumbers "scan" (λ lo hi n. gains script commands (Scan lo hi n) ((is_within 1 1000 n, Range) ∷ (nat_le lo hi, Order) ∷ []))
+    ∷ []
+
+-- The lines that may stand at a place, this being the line with the number that is given. Where there is a simulation a schedule may follow the clients.
+abbrev pub forms_at : Bool → Place → ℕ → List (LineForm Place)
+forms_at sim Outset number = shape_form ∷ []
+forms_at sim (Shaped shape) number = servers_form shape ∷ []
+forms_at sim (Listing script) number =
+    client_form script
+    ∷ (if nat_lt 0 (length script.clients) then begin_form script ∷ [] else [])
+    ++ (if sim then schedule_form number script ∷ [] else [])
+forms_at sim (Programming script commands) number = command_forms script commands ++ end_form script commands ∷ []
+forms_at sim (Scheduled script start) number = []
+
+abbrev pub client_event : Workload → Event → ℕ → Meaning Event
+client_event script event client = makes_if ((is_within 1 (length script.clients) client, Range) ∷ []) event
+
+abbrev pub publish : Workload → ℕ → ℕ → Meaning Event
+publish script server upto = makes_if ((is_within 1 script.servers server && nat_le upto 4294967295, Range) ∷ []) (Publish server upto)
+
+abbrev pub stop : ℕ → ℕ → Meaning Event
+stop call pattern = makes_if ((is_within 1 4 call && nat_le pattern 2, Range) ∷ []) (Stop call pattern)
+
+-- b C, a C, e C, f C, p S, r S Q, t K M: client C of the script, server S of it, position Q, a stop in call K with pattern M
+abbrev pub event_forms : Workload → List (LineForm Event)
+event_forms script =
+    OneNumber "b" (λ client. client_event script (Begin client) client)
+    ∷ OneNumber "a" (λ client. client_event script (Append client) client)
+    ∷ OneNumber "e" (λ client. client_event script (End client) client)
+    ∷ OneNumber "f" (λ client. client_event script (Refuse client) client)
+    ∷ OneNumber "p" (λ server. makes_if ((is_within 1 script.servers server, Range) ∷ []) (Pad server))
+    ∷ TwoNumbers "r" (publish script)
+    ∷ TwoNumbers "t" stop
+    ∷ []
+
+-- the event of a line of these words, or the first cause against it
+abbrev pub event_of : Workload → List Text → Result Event Why
+event_of script words = if is_event_for_now words then read_line (event_forms script) words else Err Word

@@ -1,0 +1,12 @@
+pub mod Causes
+pub mod Lines
+pub mod ForNow
+pub mod Forms
+pub mod Fields
+pub mod Grammar
+pub mod ScriptFields
+pub mod Parts
+pub mod Reading
+pub mod Outcome
+pub mod Spelling
+pub mod Laws

@@ -1,0 +1,74 @@
+-- What the line of a place tells, apart from where it leads.
+use Rattle.std.specs.Prelude.{◌≡◌, ◌<◌, ℕ, ⊤, length, List, [], ◌∷◌, ◌++◌, Result, Ok, Err}
+use Rattle.hy_base.specs.declared.workload.Command.{Command}
+use Rattle.hy_base.specs.declared.workload.Client.{Client as ScriptClient}
+use Rattle.hy_base.specs.Shape.{IsWithin, IsGoodShape}
+use Rattle.hy_base.specs.Script.{Workload, IsCommand, IsProgram, client_count}
+use Rattle.hy_script.specs.declared.reader.Place.{Place as PlaceCode}
+use Rattle.hy_script.specs.declared.reader.Place.TheVariants.{Start as StartCode, Shaped as ShapedCode, Listing as ListingCode, Programming as ProgrammingCode}
+use Rattle.hy_script.specs.declared.reader.Step.{Step}
+use Rattle.hy_script.specs.declared.reader.Step.TheVariants.{To, Reaches}
+use Rattle.hy_script.specs.Grammar.{Place, Outset, Shaped, Listing, Programming, Scheduled, with_client, with_program, last_program_count}
+use Rattle.hy_script.specs.declared.why.Why.{Why}
+use Rattle.hy_script.specs.declared.script.LineError.{LineError}
+use Rattle.hy_script.specs.declared.script.LineError.TheVariants.{Unfit, Memory}
+use Rattle.hy_script.specs.declared.script.ListingLine.{ListingLine}
+use Rattle.hy_script.specs.declared.script.ListingLine.TheVariants.{Client, Begin, Schedule}
+use Rattle.hy_script.specs.declared.script.ProgramLine.{ProgramLine}
+use Rattle.hy_script.specs.declared.script.ProgramLine.TheVariants.{Next, End}
+
+-- the place that a line's reading leads to
+abbrev pub leading : {A : Type 0} → (A → Place) → Result A Why → Result Place Why
+leading place (Ok a) = Ok (place a)
+leading place (Err why) = Err why
+
+-- the same, unless memory ran out
+abbrev pub FailsAs : LineError → Result Place Why → Type 0
+FailsAs (Unfit why) read = read ≡ Err why
+FailsAs Memory read = ⊤
+
+abbrev pub LeadsTo : {A : Type 0} → (A → Place) → Result A LineError → Result Place Why → Type 0
+LeadsTo place (Ok a) read = read ≡ Ok (place a)
+LeadsTo place (Err e) read = FailsAs e read
+
+abbrev pub after_listing : Workload → ℕ → ListingLine → Place
+after_listing script number (Client server) = Listing (with_client server script)
+after_listing script number Begin = Programming script []
+after_listing script number Schedule = Scheduled script number
+
+abbrev pub after_program_line : Workload → List Command → ProgramLine → Place
+after_program_line script commands (Next command) = Programming script (commands ++ command ∷ [])
+after_program_line script commands End = Listing (with_program commands script)
+
+-- the place that a program's code has reached, without a schedule
+abbrev pub place_of : PlaceCode → Place
+place_of StartCode = Outset
+place_of (ShapedCode shape) = Shaped shape
+place_of (ListingCode script) = Listing script
+place_of (ProgrammingCode script commands) = Programming script commands
+
+abbrev pub after_step : ℕ → Step → Place
+after_step number (To place) = place_of place
+after_step number (Reaches script) = Scheduled script number
+
+-- what a place keeps
+abbrev pub IsPlace : PlaceCode → Type 0
+IsPlace StartCode = ⊤
+IsPlace (ShapedCode shape) = IsGoodShape shape
+IsPlace (ListingCode script) = ⊤
+IsPlace (ProgrammingCode script commands) = (0 < length script.clients) × (last_program_count script.clients < 10000) × IsProgram (record { commands = commands })
+
+abbrev pub IsStep : Step → Type 0
+IsStep (To place) = IsPlace place
+IsStep (Reaches script) = ⊤
+
+-- what a line between programs tells
+abbrev pub IsListed : ℕ → List ScriptClient → ListingLine → Type 0
+IsListed servers clients (Client server) = IsWithin 1 servers server × (client_count clients server < 16)
+IsListed servers clients Begin = (0 < length clients) × (last_program_count clients < 10000)
+IsListed servers clients Schedule = ⊤
+
+-- and a line of a program that has so many commands
+abbrev pub IsNext : ℕ → ProgramLine → Type 0
+IsNext count (Next command) = IsCommand command × (count < 64)
+IsNext count End = ⊤

@@ -1,0 +1,42 @@
+-- How a script and a schedule are written: each line as the grammar has it, no comments and no empty lines.
+use Rattle.std.specs.Prelude.{List, [], ◌∷◌, ◌++◌, map, flat_map, codes, decimal}
+use Rattle.hy_base.specs.declared.workload.Command.{Command}
+use Rattle.hy_base.specs.declared.workload.Command.TheVariants.{Get, Put, Del, Add, Scan}
+use Rattle.hy_base.specs.declared.workload.Client.{Client}
+use Rattle.hy_base.specs.declared.workload.Program.{Program}
+use Rattle.hy_base.specs.declared.workload.Event.{Event}
+use Rattle.hy_base.specs.Script.{Workload}
+use Rattle.hy_base.specs.Spelling.{Text, line, event_words}
+
+abbrev pub command_words : Command → List Text
+command_words (Get key) = codes "get" ∷ decimal key ∷ []
+command_words (Put key value) = codes "put" ∷ decimal key ∷ value ∷ []
+command_words (Del key) = codes "del" ∷ decimal key ∷ []
+command_words (Add key n) = codes "add" ∷ decimal key ∷ decimal n ∷ []
+command_words (Scan lo hi n) = codes "scan" ∷ decimal lo ∷ decimal hi ∷ decimal n ∷ []
+
+abbrev pub program_lines : Program → List (List Text)
+program_lines program = (codes "begin" ∷ []) ∷ map command_words program.commands ++ (codes "end" ∷ []) ∷ []
+
+abbrev pub client_lines : Client → List (List Text)
+client_lines client = (codes "client" ∷ decimal client.server ∷ []) ∷ flat_map program_lines client.programs
+
+-- the words of a script's lines
+abbrev pub script_lines : Workload → List (List Text)
+script_lines script =
+    (codes "shape" ∷ decimal script.shape.group ∷ decimal script.shape.window ∷ decimal script.shape.cap ∷ [])
+    ∷ (codes "servers" ∷ decimal script.servers ∷ [])
+    ∷ flat_map client_lines script.clients
+
+abbrev pub text_of_lines : List (List Text) → Text
+text_of_lines lines = flat_map line lines
+
+abbrev pub script_text : Workload → Text
+script_text script = text_of_lines (script_lines script)
+
+abbrev pub schedule_text : List Event → Text
+schedule_text events = text_of_lines (map event_words events)
+
+-- a script and its schedule
+abbrev pub input_text : Workload → List Event → Text
+input_text script events = script_text script ++ (text_of_lines ((codes "schedule" ∷ []) ∷ []) ++ schedule_text events)

@@ -1,0 +1,314 @@
+//! The lines of a script.
+ghost use Rattle.std.specs.Prelude.{◌≡◌, ◌<◌, ◌≤◌, ◌∷◌, [], ⊤, Bool, ℕ, List, Ok, Err, length, if◌then◌else◌, true, false, nat_lt, IfOk};
+ghost use Rattle.hy_base.specs.Script.{Workload, IsCommand, client_count};
+ghost use Rattle.hy_base.specs.Shape.{IsGoodShape, IsWithin};
+ghost use Rattle.hy_base.specs.Value.{is_value};
+ghost use Rattle.hy_script.specs.Fields.{HasFields, and_then, one_number, two_numbers, three_numbers, no_fields};
+ghost use Rattle.hy_script.specs.Forms.{judged, read_line};
+ghost use Rattle.hy_script.specs.Grammar.{Outset, Shaped, Listing, Programming, forms_at, last_program_count};
+ghost use Rattle.hy_script.specs.Parts.{leading, LeadsTo, after_listing, after_program_line, IsListed, IsNext};
+ghost use Rattle.hy_script.specs.ScriptFields.{shape_fields, scan_fields, ValueOf, shape_line, servers_line, number_within, client_fields, begin_fields, listing_line, one_more, put_fields, program_line, Tells};
+ghost use Rattle.hy_script.specs.Lines.{words_of};
+ghost use Rattle.hy_base.specs.declared.workload.Command.TheVariants.{Get, Del, Add};
+ghost use Rattle.hy_script.specs.declared.script.ListingLine.TheVariants.{Begin, Schedule};
+ghost use Rattle.hy_script.specs.declared.script.ProgramLine.TheVariants.{End};
+ghost use Rattle.hy_script.specs.declared.why.Why.TheVariants.{Count};
+
+use crate::Why;
+use crate::words::{
+    Fields, cut_fields, no_fields, number_and_text, one_number, three_numbers, two_numbers,
+};
+use hy_base::{Client, Command, Shape, Value, ValueError};
+use std::alloc::{AllocError, Global};
+
+/// Why a line was not read.
+#[derive(Clone, Copy, Debug, PartialEq, Eq)]
+pub enum LineError {
+    Unfit(Why),
+    Memory,
+}
+
+impl From<Why> for LineError {
+    ghost use Rattle.std.specs.Prelude.{◌≡◌};
+    ghost use Rattle.hy_script.specs.declared.script.LineError.TheVariants.{Unfit};
+
+    ghost from_gives = { λ why e. e ≡ Unfit why };
+
+    fn from(why: Why) -> LineError {
+        LineError::Unfit(why)
+    }
+}
+
+impl From<AllocError> for LineError {
+    ghost use Rattle.std.specs.Prelude.{◌≡◌};
+    ghost use Rattle.hy_script.specs.declared.script.LineError.TheVariants.{Memory};
+
+    ghost from_gives = { λ _ e. e ≡ Memory };
+
+    fn from(_error: AllocError) -> LineError {
+        LineError::Memory
+    }
+}
+
+/// A line between programs.
+#[derive(Clone, Copy, Debug, PartialEq, Eq)]
+pub enum ListingLine {
+    Client(u8),
+    Begin,
+    Schedule,
+}
+
+/// A line of a program.
+#[derive(Debug, Drop)]
+pub enum ProgramLine {
+    Next(Command),
+    End,
+}
+
+fn shape_of(fields: Fields<'_>) -> Result<Shape, Why>
+    ensures exact { (words : List (List ℕ)) → HasFields fields.entry words → result ≡ shape_fields words }
+    ensures good { IfOk result IsGoodShape }
+{
+    let (group, window, cap) = three_numbers(fields)?;
+    // FOR NOW groups and windows have one position. (To lift it, delete this test.)
+    if group != 1 || window != 1 {
+        return Err(Why::Range);
+    }
+    if group < 1 || group > 8 || window < 1 || window > 64 {
+        return Err(Why::Range);
+    }
+    if cap < group || cap > 2147483648 || cap % group != 0 {
+        return Err(Why::Range);
+    }
+    Ok(Shape {
+        group: group as u8,
+        window: window as u8,
+        cap: cap as u32,
+    })
+}
+
+/// The shape.
+pub fn read_shape(line: &[u8]) -> Result<Shape, Why>
+    ensures exact { result ≡ shape_line (words_of line.now) }
+    ensures good { IfOk result IsGoodShape }
+{
+    let (word, fields) = cut_fields(line);
+    if word == b"shape".as_slice() {
+        return shape_of(fields);
+    }
+    Err(Why::Word)
+}
+
+fn within(low: u8, high: u8, fields: Fields<'_>) -> Result<u8, Why>
+    ensures exact { (words : List (List ℕ)) → HasFields fields.entry words → result ≡ number_within low high words }
+    ensures range { IfOk result (λ n. IsWithin low high n) }
+{
+    let number = one_number(fields)?;
+    if low as u64 <= number && number <= high as u64 {
+        Ok(number as u8)
+    } else {
+        Err(Why::Range)
+    }
+}
+
+/// The number of servers.
+pub fn read_servers(line: &[u8]) -> Result<u8, Why>
+    ensures exact { result ≡ servers_line (words_of line.now) }
+    ensures range { IfOk result (λ n. IsWithin 1 8 n) }
+{
+    let (word, fields) = cut_fields(line);
+    if word == b"servers".as_slice() {
+        return within(1, 8, fields);
+    }
+    Err(Why::Word)
+}
+
+// The clients of a server.
+fn count_of(clients: &[Client], server: u8) -> usize
+    ensures { result ≡ client_count clients.now server }
+{
+    clients
+        .iter()
+        .filter(|client| client.server == server)
+        .count()
+}
+
+fn client_of(servers: u8, clients: &[Client], fields: Fields<'_>) -> Result<ListingLine, Why>
+    ensures exact { (words : List (List ℕ)) (shape : Shape) → HasFields fields.entry words → result ≡ client_fields (record { shape = shape; servers = servers; clients = clients.now }) words }
+    ensures fits { IfOk result (IsListed servers clients.now) }
+{
+    let server = within(1, servers, fields)?;
+    if count_of(clients, server) < 16 {
+        Ok(ListingLine::Client(server))
+    } else {
+        Err(Why::Count)
+    }
+}
+
+fn begin_of(last: &Client, fields: Fields<'_>) -> Result<ListingLine, Why>
+    ensures exact { (words : List (List ℕ)) → HasFields fields.entry words → result ≡ and_then (no_fields words) (λ u. if nat_lt (length last.now.programs) 10000 then Ok Begin else Err Count) }
+    ensures fits { IfOk result (λ l. (l ≡ Begin) × (length last.now.programs < 10000)) }
+{
+    no_fields(fields)?;
+    if last.programs.len() < 10000 {
+        Ok(ListingLine::Begin)
+    } else {
+        Err(Why::Count)
+    }
+}
+
+fn schedule_of(fields: Fields<'_>) -> Result<ListingLine, Why>
+    ensures exact { (words : List (List ℕ)) → HasFields fields.entry words → result ≡ and_then (no_fields words) (λ u. Ok Schedule) }
+    ensures fits { IfOk result (λ l. l ≡ Schedule) }
+{
+    no_fields(fields)?;
+    Ok(ListingLine::Schedule)
+}
+
+fn scan_of(fields: Fields<'_>) -> Result<Command, Why>
+    ensures exact { (words : List (List ℕ)) → HasFields fields.entry words → result ≡ scan_fields words }
+    ensures lawful { IfOk result IsCommand }
+{
+    let (lo, hi, n) = three_numbers(fields)?;
+    if n < 1 || n > 1000 {
+        return Err(Why::Range);
+    }
+    if lo <= hi {
+        Ok(Command::Scan {
+            lo,
+            hi,
+            n: n as u16,
+        })
+    } else {
+        Err(Why::Order)
+    }
+}
+
+fn value_of(alloc: Global, text: &[u8]) -> Result<Value, LineError>
+    ensures { ValueOf result text.now }
+{
+    let bytes = Vec::from_slice(alloc, text)?;
+    match Value::new(bytes) {
+        Ok(value) => Ok(value),
+        Err(ValueError::BadValue) => Err(LineError::Unfit(Why::Value)),
+        Err(ValueError::Memory) => Err(LineError::Memory),
+    }
+}
+
+/// The line that stands between programs.
+#[tactic(auto, using(crate::proofs::ScriptLines::last_count))]
+pub fn read_listing(
+    sim: bool,
+    servers: u8,
+    clients: &[Client],
+    line: &[u8],
+) -> Result<ListingLine, Why>
+    ensures exact { (shape : Shape) → result ≡ listing_line sim (record { shape = shape; servers = servers; clients = clients.now }) (words_of line.now) }
+    ensures fits { IfOk result (IsListed servers clients.now) }
+{
+    let (word, fields) = cut_fields(line);
+    if word == b"client".as_slice() {
+        return client_of(servers, clients, fields);
+    }
+    if word == b"begin".as_slice() {
+        return match clients.last() {
+            Some(last) => begin_of(last, fields),
+            None => Err(Why::Word),
+        };
+    }
+    if sim && word == b"schedule".as_slice() {
+        return schedule_of(fields);
+    }
+    Err(Why::Word)
+}
+
+// A further command of a program.
+fn one_more(count: usize, command: Command) -> Result<ProgramLine, Why>
+    requires lawful { IsCommand command }
+    ensures exact { result ≡ one_more count command }
+    ensures fits { IfOk result (IsNext count) }
+{
+    if count < 64 {
+        Ok(ProgramLine::Next(command))
+    } else {
+        Err(Why::Count)
+    }
+}
+
+fn get_of(count: usize, fields: Fields<'_>) -> Result<ProgramLine, LineError>
+    ensures exact { (words : List (List ℕ)) → HasFields fields.entry words → Tells result (and_then (one_number words) (λ key. one_more count (Get key))) }
+    ensures fits { IfOk result (IsNext count) }
+{
+    let line = one_more(count, Command::Get(one_number(fields)?))?;
+    Ok(line)
+}
+
+fn del_of(count: usize, fields: Fields<'_>) -> Result<ProgramLine, LineError>
+    ensures exact { (words : List (List ℕ)) → HasFields fields.entry words → Tells result (and_then (one_number words) (λ key. one_more count (Del key))) }
+    ensures fits { IfOk result (IsNext count) }
+{
+    let line = one_more(count, Command::Del(one_number(fields)?))?;
+    Ok(line)
+}
+
+fn add_of(count: usize, fields: Fields<'_>) -> Result<ProgramLine, LineError>
+    ensures exact { (words : List (List ℕ)) → HasFields fields.entry words → Tells result (and_then (two_numbers words) (λ p. one_more count (Add p.0 p.1))) }
+    ensures fits { IfOk result (IsNext count) }
+{
+    let (key, n) = two_numbers(fields)?;
+    let line = one_more(count, Command::Add(key, n))?;
+    Ok(line)
+}
+
+fn counted_scan(count: usize, fields: Fields<'_>) -> Result<ProgramLine, LineError>
+    ensures exact { (words : List (List ℕ)) → HasFields fields.entry words → Tells result (and_then (scan_fields words) (one_more count)) }
+    ensures fits { IfOk result (IsNext count) }
+{
+    let line = one_more(count, scan_of(fields)?)?;
+    Ok(line)
+}
+
+fn end_of(fields: Fields<'_>) -> Result<ProgramLine, LineError>
+    ensures exact { (words : List (List ℕ)) → HasFields fields.entry words → Tells result (and_then (no_fields words) (λ u. Ok End)) }
+    ensures fits { IfOk result (λ l. l ≡ End) }
+{
+    no_fields(fields)?;
+    Ok(ProgramLine::End)
+}
+
+fn put_of(alloc: Global, count: usize, fields: Fields<'_>) -> Result<ProgramLine, LineError>
+    ensures exact { (words : List (List ℕ)) → HasFields fields.entry words → Tells result (put_fields count words) }
+    ensures fits { IfOk result (IsNext count) }
+{
+    let (key, text) = number_and_text(fields)?;
+    let value = value_of(alloc, text)?;
+    let line = one_more(count, Command::Put(key, value))?;
+    Ok(line)
+}
+
+/// A line of a program that has so many commands.
+pub fn read_program_line(alloc: Global, count: usize, line: &[u8]) -> Result<ProgramLine, LineError>
+    ensures exact { Tells result (program_line count (words_of line.now)) }
+    ensures fits { IfOk result (IsNext count) }
+{
+    let (word, fields) = cut_fields(line);
+    if word == b"get".as_slice() {
+        return get_of(count, fields);
+    }
+    if word == b"put".as_slice() {
+        return put_of(alloc, count, fields);
+    }
+    if word == b"del".as_slice() {
+        return del_of(count, fields);
+    }
+    if word == b"add".as_slice() {
+        return add_of(count, fields);
+    }
+    if word == b"scan".as_slice() {
+        return counted_scan(count, fields);
+    }
+    if word == b"end".as_slice() {
+        return end_of(fields);
+    }
+    Err(LineError::Unfit(Why::Word))
+}

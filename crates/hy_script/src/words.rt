@@ -1,0 +1,124 @@
+//! How a line is cut into its first word and its fields.
+ghost use Rattle.std.specs.Prelude.{◌≡◌, ℕ, List, ◌∷◌, []};
+ghost use Rattle.std.specs.Option.{option_map_or};
+ghost use Rattle.hy_script.specs.Lines.{has_first_word, pieces_of, words_of};
+ghost use Rattle.hy_script.specs.Fields.{HasFields, HasWords, number_field, one_number, two_numbers, three_numbers, number_and_text, no_fields};
+ghost use Rattle.std.specs.Result.{result_map_both};
+
+use crate::Why;
+use crate::cut::cut;
+use crate::number::read_number;
+
+/// The fields of a line: none of them is empty, unless there are too many anyway.
+#[derive(Clone, Copy, Debug)]
+pub enum Fields<'a> {
+    Zero,
+    One(&'a [u8]),
+    Two(&'a [u8], &'a [u8]),
+    Three(&'a [u8], &'a [u8], &'a [u8]),
+    /// One is empty, or there are more than three.
+    Bad,
+}
+
+#[tactic(auto, using(crate::proofs::Cutting::has_pieces))]
+fn fields_of(rest: Option<&[u8]>) -> Fields<'_>
+    ensures { HasFields result (option_map_or (λ bytes. pieces_of 32 bytes.now) rest.entry []) }
+{
+    let Some(rest) = rest else {
+        return Fields::Zero;
+    };
+    let (first, rest) = cut(b' ', rest);
+    if first.is_empty() {
+        return Fields::Bad;
+    }
+    let Some(rest) = rest else {
+        return Fields::One(first);
+    };
+    let (second, rest) = cut(b' ', rest);
+    if second.is_empty() {
+        return Fields::Bad;
+    }
+    let Some(rest) = rest else {
+        return Fields::Two(first, second);
+    };
+    let (third, rest) = cut(b' ', rest);
+    if third.is_empty() {
+        return Fields::Bad;
+    }
+    match rest {
+        None => Fields::Three(first, second, third),
+        Some(_) => Fields::Bad,
+    }
+}
+
+/// The first word of a line, and its fields.
+pub fn cut_fields(line: &[u8]) -> (&[u8], Fields<'_>)
+    ensures { HasWords (words_of line.now) result.0.now result.1 }
+{
+    let (word, rest) = cut(b' ', line);
+    (word, fields_of(rest))
+}
+
+/// Whether a line begins with this word.
+pub fn has_first_word(line: &[u8], word: &[u8]) -> bool
+    ensures { result ≡ has_first_word word.now (words_of line.now) }
+{
+    let (first, _) = cut(b' ', line);
+    first == word
+}
+
+fn number_field(field: &[u8]) -> Result<u64, Why>
+    ensures { result ≡ number_field field.now }
+{
+    read_number(field).ok_or(Why::Number)
+}
+
+/// The number that is the only field.
+pub fn one_number(fields: Fields<'_>) -> Result<u64, Why>
+    ensures { (words : List (List ℕ)) → HasFields fields.entry words → result ≡ one_number words }
+{
+    match fields {
+        Fields::One(a) => number_field(a),
+        _ => Err(Why::Form),
+    }
+}
+
+/// The two numbers that are the fields.
+pub fn two_numbers(fields: Fields<'_>) -> Result<(u64, u64), Why>
+    ensures { (words : List (List ℕ)) → HasFields fields.entry words → result ≡ two_numbers words }
+{
+    match fields {
+        Fields::Two(a, b) => Ok((number_field(a)?, number_field(b)?)),
+        _ => Err(Why::Form),
+    }
+}
+
+/// The three numbers that are the fields.
+pub fn three_numbers(fields: Fields<'_>) -> Result<(u64, u64, u64), Why>
+    ensures { (words : List (List ℕ)) → HasFields fields.entry words → result ≡ three_numbers words }
+{
+    match fields {
+        Fields::Three(a, b, c) => Ok((number_field(a)?, number_field(b)?, number_field(c)?)),
+        _ => Err(Why::Form),
+    }
+}
+
+/// The number and the text that are the fields.
+pub fn number_and_text(fields: Fields<'_>) -> Result<(u64, &[u8]), Why>
+    ensures { (words : List (List ℕ)) → HasFields fields.entry words → result_map_both (λ p. (p.0, p.1.now)) (λ why. why) result ≡ number_and_text words }
+{
+    match fields {
+        Fields::Two(a, text) => Ok((number_field(a)?, text)),
+        _ => Err(Why::Form),
+    }
+}
+
+/// Answers whether there are no fields.
+pub fn no_fields(fields: Fields<'_>) -> Result<(), Why>
+    ensures { (words : List (List ℕ)) → HasFields fields.entry words → result ≡ no_fields words }
+{
+    match fields {
+        Fields::Zero => Ok(()),
+        _ => Err(Why::Form),
+    }
+}

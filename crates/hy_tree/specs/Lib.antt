@@ -1,0 +1,5 @@
+pub mod TreeRows
+pub mod Shows
+pub mod Places
+pub mod Node
+pub mod NodeFalls
