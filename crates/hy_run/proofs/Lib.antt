@@ -22,3 +22,5 @@ pub mod Telling
 pub mod Following
 pub mod Rows
 pub mod Unique
+pub mod Inspecting
+pub mod Obeying

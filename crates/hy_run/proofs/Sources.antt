@@ -12,7 +12,7 @@ use Rattle.hy_base.specs.declared.report.Results.{Results}
 use Rattle.hy_run.specs.Calls.{IsRunOf, IsRefusal, IsReadFault}
 use Rattle.hy_run.specs.Output.{AreOf, IsOutput, IsRefused, LeavesSource}
 use Rattle.hy_run.specs.declared.status.Status.{Status}
-use Rattle.hy_run.specs.declared.status.Status.TheVariants.{Fine, Usage, Script, Source, Sink, Memory}
+use Rattle.hy_run.specs.declared.status.Status.TheVariants.{Fine, Usage, Script, Source, Sink, Device, Log, Memory}
 use Rattle.hy_run.specs.Simulation.{IsSimulation}
 use Rattle.hy_run.specs.Form.{Input, after_line, checked_schedule, event_line, input_at, lines_of, read_form, read_lines, read_source, words_of}
 use Rattle.hy_run.specs.declared.why.Why.{Why}
@@ -84,6 +84,8 @@ refusal_of told bytes Usage before now same is = is
 refusal_of told bytes (Script n why) before now same is = record { bytes = bytes; are_of = are_these told bytes same; refused = is }
 refusal_of told bytes Source before now same is = absurd is
 refusal_of told bytes Sink before now same is = is
+refusal_of told bytes (Device device) before now same is = is
+refusal_of told bytes (Log place cause) before now same is = is
 refusal_of told bytes Memory before now same is = tt
 
 pub output_of : (told : Option Text) (bytes text : Text) → IfSome told (λ left. bytes ≡ left) → IsOutput (Some bytes) text → IsOutput told text
@@ -165,6 +167,8 @@ left_so bytes (Script n Disabled) before now short is end front = end
 left_so bytes (Script n Long) before now short is end front = not_long bytes n short is
 left_so bytes Source before now short is end front = absurd is
 left_so bytes Sink before now short is end front = absurd is
+left_so bytes (Device device) before now short is end front = absurd is
+left_so bytes (Log place cause) before now short is end front = absurd is
 left_so bytes Memory before now short is end front = front
 
 -- a source that was read whole gave at most so many bytes

@@ -1,6 +1,6 @@
 -- The digits of a number are a value.
-use Rattle.std.proofs.Common.{rules, ◌≡◌, ℕ, ◌+◌, ◌%◌, ◌<◌, ◌≤◌, ◌^◌, Bool, true, List, [], ◌∷◌, ◌++◌, length, refl, ◌∙◌, arith, ◌&&◌, lit<}
-use Rattle.std.specs.Prelude.{decimal, nat_le, Result, Ok, Err, IsOk, IfErr}
+use Rattle.std.proofs.Common.{◌≡◌, ℕ, ◌+◌, ◌%◌, ◌<◌, ◌≤◌, ◌^◌, Bool, true, List, [], ◌∷◌, ◌++◌, length, refl, ◌∙◌, arith, ◌&&◌, lit<}
+use Rattle.std.specs.Prelude.{decimal, nat_le}
 use Rattle.std.specs.List.{list_all}
 use Rattle.std.proofs.lemmas.Fmt.{decimal_by_steps, decimal_nonempty, length-decimal-le}
 use Rattle.std.proofs.lemmas.List.Folds.{list_all-append}
@@ -29,7 +29,3 @@ decimal_is_value n small =
     let few : nat_le (length (decimal n)) 256 ≡ true = grind (arith, at_most) in
     all_three (nat_le 1 (length (decimal n))) (nat_le (length (decimal n)) 256) (list_all is_printable (decimal n)) one few
     (decimal_by_steps (λ m ds. list_all is_printable ds ≡ true) one_printable more_printable n small)
-
-pub ok_where_value : {A B : Type 0} (r : Result A B) (bytes : List ℕ) → IfErr r (λ _. IsValue bytes → ⊥) → IsValue bytes → IsOk r
-ok_where_value (Ok v) bytes h p = search rules
-ok_where_value (Err e) bytes h p = absurd (h p)

@@ -11,7 +11,7 @@ use Rattle.hy_run.specs.Form.{Input, read_source}
 use Rattle.hy_run.specs.Simulation.{IsCalm, IsSimulation}
 use Rattle.hy_run.specs.Sums.{HasSums}
 use Rattle.hy_run.specs.declared.status.Status.{Status}
-use Rattle.hy_run.specs.declared.status.Status.TheVariants.{Fine, Usage, Script, Source, Sink, Memory}
+use Rattle.hy_run.specs.declared.status.Status.TheVariants.{Fine, Usage, Script, Source, Sink, Device, Log, Memory}
 
 -- what the reader lets through: one server, groups of one, sums alone, and no stop
 pub record IsFirstInput (input : Input) : Type 0 where
@@ -34,6 +34,8 @@ IsRefusal bytes Usage = ⊥
 IsRefusal bytes (Script n why) = read_source bytes ≡ Err (n, why)
 IsRefusal bytes Source = ⊥
 IsRefusal bytes Sink = ⊥
+IsRefusal bytes (Device device) = ⊥
+IsRefusal bytes (Log place cause) = ⊥
 IsRefusal bytes Memory = ⊤
 
 -- and nothing was read: the source is refused, it failed, or memory ran out
@@ -43,4 +45,6 @@ IsReadFault told faults faults_now Usage = ⊥
 IsReadFault told faults faults_now (Script n why) = IsRefused told n why
 IsReadFault told faults faults_now Source = Rose faults faults_now
 IsReadFault told faults faults_now Sink = ⊥
+IsReadFault told faults faults_now (Device device) = ⊥
+IsReadFault told faults faults_now (Log place cause) = ⊥
 IsReadFault told faults faults_now Memory = ⊤

@@ -1,5 +1,5 @@
--- What a simulation writes.
-use Rattle.std.specs.Prelude.{◌≡◌, ◌≢◌, ◌⊎◌, ℕ, List, [], ◌++◌, Option, Some, None, Ok, Err, IfSome, IsTrue}
+-- What a simulation writes, and the line and the exit status of each answer.
+use Rattle.std.specs.Prelude.{◌≡◌, ◌≢◌, ◌⊎◌, ℕ, List, [], ◌++◌, Option, Some, None, Ok, Err, IfSome, IsTrue, codes}
 use Rattle.std.specs.Io.KnownBytes.{Appends, IsAtEnd, Keeps}
 use Rattle.hy_base.specs.declared.workload.Event.{Event}
 use Rattle.hy_base.specs.Faults.{Rose}
@@ -8,12 +8,15 @@ use Rattle.hy_base.specs.Spelling.{Text}
 use Rattle.hy_io.specs.Whole.{GivesAtMost, GivesExactly}
 use Rattle.hy_rules.specs.Moves.{State}
 use Rattle.hy_rules.specs.Runs.{run, opening_of, CompletesSchedule, is_finished, ended_in, results_at}
-use Rattle.hy_rules.specs.Texts.{trace_text, report_text, usage_text, script_fault_text, source_fault_text, memory_fault_text}
+use Rattle.hy_rules.specs.Texts.{trace_text, report_text, usage_text, script_fault_text, source_fault_text, memory_fault_text, device_fault_text}
+use Rattle.hy_rules.specs.Recovery.{log_fault_text}
 use Rattle.hy_run.specs.Form.{Input, read_source, why_text}
 use Rattle.hy_run.specs.declared.why.Why.{Why}
 use Rattle.hy_run.specs.declared.why.Why.TheVariants.{Unbuilt, Disabled, Long}
 use Rattle.hy_run.specs.declared.status.Status.{Status}
-use Rattle.hy_run.specs.declared.status.Status.TheVariants.{Fine, Usage, Script, Source, Sink, Memory}
+use Rattle.hy_run.specs.declared.status.Status.TheVariants.{Fine, Usage, Script, Source, Sink, Device, Log, Memory}
+use Rattle.hy_run.specs.declared.status.Which.{Which}
+use Rattle.hy_run.specs.declared.status.Which.TheVariants as which
 
 -- The text tells these events, and what they lead to: they are the schedule followed by those of the tail rule, each may happen in its turn, and the run is finished.
 pub record TellsRun (script : Workload) (schedule events : List Event) (text : Text) : Type 0 where
@@ -55,6 +58,11 @@ pub record WritesPartOf (before now : Option Text) (text : Text) : Type 0 where
 abbrev pub WritesLine : Option Text → Option Text → ℕ → ℕ → Text → Type 0
 WritesLine before now faults faults_now text = Appends before now text ⊎ (WritesPartOf before now text × Rose faults faults_now)
 
+-- the word for a device
+abbrev pub which_text : Which → Text
+which_text which.Log = codes "log"
+which_text which.Points = codes "points"
+
 -- the line that an answer other than the output writes
 abbrev pub fault_text : Status → Option Text
 fault_text Fine = None
@@ -62,6 +70,8 @@ fault_text Usage = Some usage_text
 fault_text (Script line why) = Some (script_fault_text line (why_text why))
 fault_text Source = Some source_fault_text
 fault_text Sink = None
+fault_text (Device device) = Some (device_fault_text (which_text device))
+fault_text (Log place why) = Some (log_fault_text (record { place = place; why = why }))
 fault_text Memory = Some memory_fault_text
 
 -- the exit status
@@ -71,6 +81,8 @@ status_number Usage = 1
 status_number (Script line why) = 2
 status_number Source = 3
 status_number Sink = 4
+status_number (Device device) = 5
+status_number (Log place why) = 6
 status_number Memory = 9
 
 -- How an answer leaves a source. It is at its end where it was read whole; of too long a source one byte more than the most was read, and for a wrong command nothing.
@@ -82,4 +94,6 @@ LeavesSource (Script line Disabled) before now = IsAtEnd now
 LeavesSource (Script line Long) before now = GivesExactly before now 16777217
 LeavesSource Source before now = GivesAtMost before now 16777217
 LeavesSource Sink before now = IsAtEnd now
+LeavesSource (Device device) before now = Keeps before now
+LeavesSource (Log place why) before now = Keeps before now
 LeavesSource Memory before now = GivesAtMost before now 16777217

@@ -2,7 +2,7 @@
 ghost use Rattle.std.specs.Prelude.{◌≡◌, IfOk, decimal};
 ghost use Rattle.hy_base.specs.Spelling.{number_of};
 
-use hy_base::Value;
+use hy_base::{Value, ValueError};
 use itoa::Buffer;
 use std::alloc::{AllocError, Global};
 use std::str;
@@ -31,5 +31,9 @@ pub fn number_value(alloc: Global, number: u64) -> Result<Value, AllocError>
 {
     let mut buffer = Buffer::new();
     let digits = Vec::from_slice(alloc, buffer.format(number).as_bytes())?;
-    Ok(Value::new(digits).unwrap())
+    match Value::new(digits) {
+        Ok(value) => Ok(value),
+        Err(ValueError::Memory) => Err(AllocError),
+        Err(ValueError::BadValue) => unreachable!(),
+    }
 }

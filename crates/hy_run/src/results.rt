@@ -135,8 +135,8 @@ fn replies_to(
     Ok(replies)
 }
 
-// The rows that have a value.
-fn live_rows(alloc: Global, rows: &[Row]) -> Result<Rows, AllocError>
+/// The rows that have a value.
+pub fn live_rows(alloc: Global, rows: &[Row]) -> Result<Rows, AllocError>
     ensures { IfOk result (λ live. live ≡ live_rows rows.now) }
 {
     let mut live = Items::new(alloc);

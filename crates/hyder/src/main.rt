@@ -1,24 +1,33 @@
 //! The program `hyder`: bytes in, text out, and a status.
 //!
 //! `hyder sim` reads a script from the standard input, runs it, and writes the trace and the report to the standard output.
-//! The status is 0 where all of that text is written, 1 for a fault of usage, 2 for a script that is refused, 3 and 4 where
-//! the input or the output fails, and 9 where memory is wanting; 1, 2, 3 and 9 have one line. Nothing goes to the standard error.
+//! `hyder recover` writes the dump of the log in the file `hyder.log` of the working directory, and `hyder check` what became
+//! of its entries. The status is 0 where all of that text is written, 1 for a fault of usage, 2 for a script that is refused,
+//! 3 and 4 where the input or the output fails, 5 where a file fails, 6 for a log that is refused, and 9 where memory is
+//! wanting; all but 0 and 4 have one line. Nothing goes to the standard error.
 #![tactic(auto)]
 
-ghost use Rattle.std.specs.Prelude.{◌≡◌, ◌≤◌, ◌⊎◌, ℕ, None, Some, Ok, IfOk, IfSome, map, string_bytes};
+ghost use Rattle.std.specs.Prelude.{◌≡◌, ◌≤◌, ◌⊎◌, ℕ, IsTrue, Err, IfOk, map, string_bytes};
 ghost use Rattle.std.specs.Vec.Iter.{into_iter_items};
 ghost use Rattle.std.specs.Process.{exit_status};
 ghost use Rattle.std.specs.Io.KnownBytes.{Appends};
 ghost use Rattle.hy_base.specs.Faults.{Rose};
 ghost use Rattle.hy_base.specs.Spelling.{Text};
-ghost use Rattle.hy_run.specs.CommandLine.{command_of, Sim};
-ghost use Rattle.hy_run.specs.Form.{Input, read_source};
-ghost use Rattle.hy_run.specs.Output.{IsOutput, IsRefused, WritesLine, WritesPartOf, status_number};
-ghost use Rattle.hy_run.specs.Texts.{usage_text};
+ghost use Rattle.hy_cli.specs.Matches.{Asks, refuses};
+ghost use Rattle.hy_cli.specs.declared.line.Line.{Line};
+ghost use Rattle.hy_cli.specs.declared.line.Line.TheVariants.{Sim};
+ghost use Rattle.hy_rules.specs.declared.damage.LogFault.{LogFault};
+ghost use Rattle.hy_rules.specs.Recovery.{recovered};
+ghost use Rattle.hy_rules.specs.Texts.{usage_text};
+ghost use Rattle.hy_run.specs.Obeying.{IsTextOf};
+ghost use Rattle.hy_run.specs.Output.{IsRefused, WritesLine, WritesPartOf, status_number};
+ghost use Rattle.hy_run.specs.declared.why.Why.{Why};
 
 use hy_base::Words;
+use hy_disk::Disk;
+use hy_file::FileDisk;
 use hy_io::{Sink, Source, StdSink, StdSource};
-use hy_run::{Status, Why, hyder_call};
+use hy_run::{Status, hyder_call};
 use std::alloc::{AllocError, Global};
 use std::process::ExitCode;
 use std::{env, io};
@@ -51,25 +60,32 @@ fn exit_code(status: Status) -> ExitCode
 }
 
 // Does what the words ask for, and says by the exit status how it ended.
-fn call<S: Source, K: Sink>(alloc: Global, words: &Words, source: &mut S, sink: &mut K) -> ExitCode
+fn call<S: Source, K: Sink, D: Disk + Drop>(
+    alloc: Global,
+    words: &Words,
+    source: &mut S,
+    sink: &mut K,
+    log: D,
+    points: D,
+) -> ExitCode
     // What each exit status says.
-    ensures fine { exit_status result ≡ 0 → (command_of words.now ≡ Some Sim) × ((text : Text) × IsOutput (S.left source.old) text × Appends (K.taken sink.old) (K.taken sink.new) text) }
-    ensures usage { exit_status result ≡ 1 → command_of words.now ≡ None }
-    ensures script { exit_status result ≡ 2 → (n : ℕ) × (why : Why) × IsRefused (S.left source.old) n why }
+    ensures fine { exit_status result ≡ 0 → (line : Line) × (text : Text) × Asks words.now line × IsTextOf line (S.left source.old) D.tells (D.content log).seen text × Appends (K.taken sink.old) (K.taken sink.new) text }
+    ensures usage { exit_status result ≡ 1 → refuses words.now }
+    ensures script { exit_status result ≡ 2 → (n : ℕ) × (why : Why) × ((threads : ℕ) × Asks words.now (Sim threads) × IsRefused (S.left source.old) n why) }
     ensures source { exit_status result ≡ 3 → Rose (S.faults source.old) (S.faults source.new) }
     ensures sink { exit_status result ≡ 4 → Rose (K.faults sink.old) (K.faults sink.new) }
-    ensures sink_part { exit_status result ≡ 4 → (text : Text) × IsOutput (S.left source.old) text × WritesPartOf (K.taken sink.old) (K.taken sink.new) text }
-    ensures others { (exit_status result ≤ 4) ⊎ (exit_status result ≡ 9) }
+    ensures sink_part { exit_status result ≡ 4 → (line : Line) × (text : Text) × Asks words.now line × IsTextOf line (S.left source.old) D.tells (D.content log).seen text × WritesPartOf (K.taken sink.old) (K.taken sink.new) text }
+    ensures log { exit_status result ≡ 6 → IsTrue D.tells → (fault : LogFault) × (recovered (D.content log).seen ≡ Err fault) }
+    ensures others { (exit_status result ≤ 6) ⊎ (exit_status result ≡ 9) }
 
-    // When it must come; 0 unless memory runs out.
-    ensures usage_always { command_of words.now ≡ None → exit_status result ≡ 1 }
-    ensures fine_always { command_of words.now ≡ Some Sim → IfSome (S.left source.old) (λ bytes. (input : Input) → read_source bytes ≡ Ok input
-        → (exit_status result ≡ 0) ⊎ ((exit_status result ≡ 9) ⊎ (Rose (S.faults source.old) (S.faults source.new) ⊎ Rose (K.faults sink.old) (K.faults sink.new)))) }
+    // When it must come, unless memory runs out.
+    ensures usage_always { refuses words.now → (exit_status result ≡ 1) ⊎ (exit_status result ≡ 9) }
 
     // The line of a fault of usage.
     ensures usage_line { exit_status result ≡ 1 → WritesLine (K.taken sink.old) (K.taken sink.new) (K.faults sink.old) (K.faults sink.new) usage_text }
 {
-    exit_code(hyder_call(alloc, words, source, sink).status)
+    let done = hyder_call(alloc, words, source, sink, log, points);
+    exit_code(done.status)
 }
 
 fn main(rt: HostRuntime) -> ExitCode {
@@ -79,6 +95,8 @@ fn main(rt: HostRuntime) -> ExitCode {
             &words,
             &mut StdSource::new(rt.stdin()),
             &mut StdSink::new(rt.stdout()),
+            FileDisk::new(&rt, "hyder.log"),
+            FileDisk::new(&rt, "hyder.points"),
         ),
         Err(_) => exit_code(Status::Memory),
     }
