@@ -1,6 +1,6 @@
 -- Rolling: groups are validated one after another by the rows alone, without the history.
 --     Of each key a row keeps the last writer, and that is enough to judge by.
-use Rattle.std.specs.Prelude.{◌≡◌, ℕ, zero, suc, ◌+◌, ◌*◌, ◌%◌, ◌≤◌, max, Bool, List, [], ◌∷◌, ◌++◌, length, map, take, drop, Option, None, ◌==◌, if◌then◌else◌}
+use Rattle.std.specs.Prelude.{◌≡◌, ℕ, zero, suc, ◌+◌, ◌*◌, ◌%◌, ◌≤◌, max, Bool, List, [], ◌∷◌, ◌++◌, length, map, take, drop, ◌/◌, ◌-◌, Option, None, ◌==◌, if◌then◌else◌}
 use Rattle.hy_base.specs.declared.layout.Shape.{Shape}
 use Rattle.hy_base.specs.declared.record.EntryKind.{EntryKind}
 use Rattle.hy_base.specs.declared.record.EntryKind.TheVariants.{Filler, Txn}
@@ -108,3 +108,40 @@ pub record IsRolled (s : Shape) (r : Rolled) : Type 0 where
   pub bounded : Each (λ x. x.writer ≤ s.group * r.groups) r.tree
   pub base_later : Later r.base_tree r.tree (s.group * base_groups s r.groups)
   pub kept_later : Later r.kept r.tree (s.group * kept_groups s r.groups)
+
+-- What a roller is: of a log with this shape it has rolled the first groups. It keeps the verdicts past a position, and which entries committed past the premeld base of the next group.
+pub record Roll : Type 0 where
+  pub shape : Shape
+  pub from : ℕ
+  pub rolled : Rolled
+  pub commits : List Bool
+
+-- the position up to which it has rolled, and the premeld base of the next group
+abbrev pub rolled_upto : Roll → ℕ
+rolled_upto r = r.shape.group * r.rolled.groups
+
+abbrev pub next_base : Roll → ℕ
+next_base r = r.shape.group * base_groups r.shape r.rolled.groups
+
+-- before the first group
+abbrev pub new_roll : Shape → Roll
+new_roll s = record { shape = s; from = 0; rolled = not_rolled; commits = [] }
+
+-- the commits past the base of the group after next, where it is known which entries committed past the base of the next one
+abbrev pub commits_on : Shape → Rolled → Rolled → List Bool → List Bool
+commits_on s r later commits = drop (s.group * base_groups s later.groups - s.group * base_groups s r.groups) (commits ++ commits_past (length r.verdicts) later.verdicts)
+
+-- further by the groups of these entries
+abbrev pub roll_on : Roll → List EntryKind → Roll
+roll_on r entries =
+    let later : Rolled = roll_groups r.shape (length entries / r.shape.group) r.rolled entries in
+    record { shape = r.shape; from = r.from; rolled = later; commits = commits_on r.shape r.rolled later r.commits }
+
+-- A roller stands for the first entries of a log, all whole groups: it has what these alone decide. No later entry matters.
+pub record Stands (front : List EntryKind) (r : Roll) : Type 0 where
+  pub whole : length front ≡ rolled_upto r
+  pub tree_is : r.rolled.tree ≡ rows_after r.shape front r.rolled.groups
+  pub base_is : r.rolled.base_tree ≡ rows_after r.shape front (base_groups r.shape r.rolled.groups)
+  pub kept_is : r.rolled.kept ≡ rows_after r.shape front (kept_groups r.shape r.rolled.groups)
+  pub verdicts_are : r.rolled.verdicts ≡ drop r.from (verdicts_after r.shape front r.rolled.groups)
+  pub commits_are : r.commits ≡ commits_past (next_base r) (verdicts_after r.shape front r.rolled.groups)

@@ -1,5 +1,5 @@
 -- What becomes of a line of the command line.
-use Rattle.std.proofs.Common.{◌≡◌, ◌≢◌, ℕ, Bool, IsTrue, List, [], refl, sym, ◌∙◌, ap, subst, inl, inr, ⊎_elim, arith}
+use Rattle.std.proofs.Common.{◌≡◌, ◌≢◌, ℕ, Bool, true, IsTrue, List, [], refl, sym, ◌∙◌, ap, subst, inl, inr, ⊎_elim, arith}
 use Rattle.std.specs.Prelude.{◌⊎◌, Option, Some, None, Result, Ok, Err, IfSome}
 use Rattle.std.specs.Io.KnownBytes.{Appends, Keeps}
 use Rattle.hy_base.specs.Faults.{Rose}
@@ -18,18 +18,20 @@ use Rattle.hy_disk.proofs.Moments.{started}
 use Rattle.hy_rules.specs.LogFormat.{log_in}
 use Rattle.hy_log.specs.Kept.{IsKept}
 use Rattle.hy_run.specs.Calls.{IsReadFault}
-use Rattle.hy_run.specs.Form.{Input, read_source}
+use Rattle.hy_script.specs.Reading.{refused}
+use Rattle.hy_input.specs.Source.{read_source}
+use Rattle.hy_input.specs.declared.input.Input.{Input}
 use Rattle.hy_run.specs.Inspection.{IsLogFault}
 use Rattle.hy_run.specs.Obeying.{CanBeObeyed, IsAnswered, IsCause, IsConcluded, IsTextOf, LeavesLog, LeavesSourceBy, LeavesSourceThen, LooksAtLog}
 use Rattle.hy_run.specs.Output.{IsRefused, LeavesSource, WritesPartOf}
-use Rattle.hy_run.specs.declared.why.Why.{Why}
+use Rattle.hy_script.specs.declared.why.Why.{Why}
 use Rattle.hy_run.specs.declared.status.Status.{Status}
 use Rattle.hy_run.specs.declared.status.Status.TheVariants as status
 use Rattle.hy_run.specs.declared.status.Which.{Which}
 use Rattle.hy_run.specs.declared.status.Which.TheVariants as which
 use Rattle.hy_log.specs.declared.error.OpenError.TheVariants as opening
 use Rattle.hy_run.proofs.Inspecting.{none_inspected}
-use Rattle.hy_run.proofs.Sources.{no_output}
+use Rattle.hy_run.proofs.Sources.{no_output, not_refused, one_refusal}
 
 pub keeps_front : (before now : Option Text) → Keeps before now → GivesAtMost before now 16777217
 keeps_front None now keeps = ([], tt, omega arith)
@@ -98,10 +100,10 @@ log_against tells seen device device_now (status.Log place why) told r good is =
     both o r f ok err = absurd cc
 log_against tells seen device device_now status.Memory told r good is = inl refl
 
-known_input : {A : Type 0} (told : Option Text) (bytes : Text) (input : Input) → told ≡ Some bytes → read_source bytes ≡ Ok input → IfSome told (λ bytes. (input : Input) → read_source bytes ≡ Ok input → A) → A
-known_input {A = A} told bytes input known read never = (subst (λ o. IfSome o (λ bytes. (input : Input) → read_source bytes ≡ Ok input → A)) known never) input read
+known_input : {A : Type 0} (told : Option Text) (bytes : Text) (input : Input) → told ≡ Some bytes → read_source bytes true ≡ Ok input → IfSome told (λ bytes. (input : Input) → read_source bytes true ≡ Ok input → A) → A
+known_input {A = A} told bytes input known read never = (subst (λ o. IfSome o (λ bytes. (input : Input) → read_source bytes true ≡ Ok input → A)) known never) input read
 
-script_against : (told : Option Text) (faults faults_now : ℕ) (s : Status) (bytes : Text) (input : Input) → told ≡ Some bytes → read_source bytes ≡ Ok input → IsReadFault told faults faults_now s → (s ≡ status.Memory) ⊎ Rose faults faults_now
+script_against : (told : Option Text) (faults faults_now : ℕ) (s : Status) (bytes : Text) (input : Input) → told ≡ Some bytes → read_source bytes true ≡ Ok input → IsReadFault told faults faults_now s → (s ≡ status.Memory) ⊎ Rose faults faults_now
 script_against told faults faults_now status.Fine bytes input known read is = absurd is
 script_against told faults faults_now status.Usage bytes input known read is = absurd is
 script_against told faults faults_now status.Sink bytes input known read is = absurd is
@@ -199,6 +201,32 @@ module _ {V : Type 0} (items : V → Text) (line : Line) (told : Option Text) (f
   log_or (Ok v) s fault a c looks knows bad = no_text line told tells seen (items v) fault looks knows bad a.is
   log_or (Err e) s fault a c looks knows bad =
       ⊎_elim (λ same. ⊎_elim (λ is. inl (same ∙ is)) (λ other. inr (⊎_elim (λ m. inl (same ∙ m)) (λ rose. inr rose) other)) (refusal_told line told faults faults_now tells seen device device_now e fault looks knows bad a.cause)) (λ m. inr (inl m)) c.told
+
+read_against : (bytes : Text) (faults faults_now : ℕ) (s : Status) (n : ℕ) (why : Why) → IsReadFault (Some bytes) faults faults_now s → read_source bytes true ≡ refused n why → (s ≡ status.Script n why) ⊎ ((s ≡ status.Memory) ⊎ Rose faults faults_now)
+read_against bytes faults faults_now status.Fine n why is bad = absurd is
+read_against bytes faults faults_now status.Usage n why is bad = absurd is
+read_against bytes faults faults_now (status.Script m cause) n why is bad = inl (one_refusal (Some bytes) m cause is n why bad)
+read_against bytes faults faults_now status.Source n why is bad = inr (inr is)
+read_against bytes faults faults_now status.Sink n why is bad = absurd is
+read_against bytes faults faults_now (status.Device one) n why is bad = absurd is
+read_against bytes faults faults_now (status.Log place cause) n why is bad = absurd is
+read_against bytes faults faults_now status.Memory n why is bad = inr (inl refl)
+
+script_or : {V : Type 0} (items : V → Text) (threads : ℕ) (told : Option Text) (faults faults_now : ℕ) (tells : Bool) (seen : List ℕ) (device device_now : ℕ) (before now : Option Text) (sink sink_now : ℕ) (text : Result V Status) (s : Status)
+    → IsAnswered items (Sim threads) told faults faults_now tells seen device device_now text → IsConcluded items before now sink sink_now text s
+    → IfSome told (λ bytes. (n : ℕ) (why : Why) → read_source bytes true ≡ refused n why → (s ≡ status.Script n why) ⊎ ((s ≡ status.Memory) ⊎ Rose faults faults_now))
+script_or items threads None faults faults_now tells seen device device_now before now sink sink_now text s a c = tt
+script_or items threads (Some bytes) faults faults_now tells seen device device_now before now sink sink_now (Ok v) s a c =
+    λ n why bad. absurd (not_refused ⊥ (Some bytes) (items v) a.is n why bad)
+script_or items threads (Some bytes) faults faults_now tells seen device device_now before now sink sink_now (Err e) s a c = λ n why bad.
+    ⊎_elim (λ same. ⊎_elim (λ is. inl (same ∙ is)) (λ other. inr (⊎_elim (λ m. inl (same ∙ m)) (λ rose. inr rose) other)) (read_against bytes faults faults_now e n why a.cause bad)) (λ m. inr (inl m)) c.told
+
+-- a source that is refused is told as such
+pub script_told : {V : Type 0} (items : V → Text) (line : Line) (threads : ℕ) (told : Option Text) (faults faults_now : ℕ) (tells : Bool) (seen : List ℕ) (device device_now : ℕ) (before now : Option Text) (sink sink_now : ℕ) (text : Result V Status) (s : Status)
+    → line ≡ Sim threads → IsAnswered items line told faults faults_now tells seen device device_now text → IsConcluded items before now sink sink_now text s
+    → IfSome told (λ bytes. (n : ℕ) (why : Why) → read_source bytes true ≡ refused n why → (s ≡ status.Script n why) ⊎ ((s ≡ status.Memory) ⊎ Rose faults faults_now))
+script_told items line threads told faults faults_now tells seen device device_now before now sink sink_now text s same a c =
+    script_or items threads told faults faults_now tells seen device device_now before now sink sink_now text s (subst (λ l. IsAnswered items l told faults faults_now tells seen device device_now text) same a) c
 
 -- a device on which no call was made
 pub log_untouched : {D : Type 0} (line : Line) (tells : Bool) (content : D → Content) (moment : D → ℕ) (left_since : D → ℕ → List ℕ → Type 0) (faults_of : D → ℕ) (disk : D)

@@ -1,29 +1,34 @@
 -- What the parts of the call hand to one another.
-use Rattle.std.specs.Prelude.{◌≡◌, ℕ, ⊤, List, Option, Ok, Err}
-use Rattle.std.specs.List.{AllByRecursion}
+use Rattle.std.specs.Prelude.{◌≡◌, ℕ, ⊤, IsTrue, true, List, [], Option, Some, Ok}
 use Rattle.hy_base.specs.declared.report.Results.{Results}
 use Rattle.hy_base.specs.declared.workload.Event.{Event}
 use Rattle.hy_base.specs.Faults.{Rose}
-use Rattle.hy_base.specs.Script.{IsScript}
+use Rattle.hy_base.specs.Script.{Workload, IsScript}
 use Rattle.hy_base.specs.Spelling.{Text}
+use Rattle.hy_rules.specs.Moves.{State}
+use Rattle.hy_rules.specs.Runs.{run, opening_of, CompletesSchedule, is_finished, ended_in, results_at}
+use Rattle.hy_serial.specs.Laws.{IsSerializable}
+use Rattle.hy_serial.specs.Serial.{serial_run}
+use Rattle.hy_script.specs.Reading.{refused}
+use Rattle.hy_input.specs.Source.{read_source}
+use Rattle.hy_input.specs.declared.input.Input.{Input}
 use Rattle.hy_run.specs.Output.{IsRefused}
-use Rattle.hy_run.specs.Form.{Input, read_source}
-use Rattle.hy_run.specs.Simulation.{IsCalm, IsSimulation}
-use Rattle.hy_run.specs.Sums.{HasSums}
 use Rattle.hy_run.specs.declared.status.Status.{Status}
 use Rattle.hy_run.specs.declared.status.Status.TheVariants.{Fine, Usage, Script, Source, Sink, Device, Log, Memory}
 
--- what the reader lets through: one server, groups of one, sums alone, and no stop
-pub record IsFirstInput (input : Input) : Type 0 where
-  pub servers : input.script.servers ≡ 1
-  pub group : input.script.shape.group ≡ 1
-  pub sums : HasSums input.script
-  pub calm : AllByRecursion IsCalm input.schedule
+-- what a simulation gives: a schedule is completed, the run is finished and serializable, and these are its results
+pub record IsSimulation (script : Workload) (schedule events : List Event) (results : Results) : Type 0 where
+  pub completes : CompletesSchedule script [] schedule events
+  pub end : State
+  pub leads : run script (opening_of script []) events ≡ Some end
+  pub finished : IsTrue (is_finished script end)
+  pub serial : IsSerializable (serial_run script [] events end)
+  pub results_are : results ≡ results_at script (ended_in script (opening_of script []) events) end
 
 -- the run that a source's bytes ask for
 pub record IsRunOf (bytes : Text) (events : List Event) (results : Results) : Type 0 where
   pub input : Input
-  pub asked : read_source bytes ≡ Ok input
+  pub asked : read_source bytes true ≡ Ok input
   pub script : IsScript input.script
   pub is : IsSimulation input.script input.schedule events results
 
@@ -31,7 +36,7 @@ pub record IsRunOf (bytes : Text) (events : List Event) (results : Results) : Ty
 abbrev pub IsRefusal : Text → Status → Type 0
 IsRefusal bytes Fine = ⊥
 IsRefusal bytes Usage = ⊥
-IsRefusal bytes (Script n why) = read_source bytes ≡ Err (n, why)
+IsRefusal bytes (Script n why) = read_source bytes true ≡ refused n why
 IsRefusal bytes Source = ⊥
 IsRefusal bytes Sink = ⊥
 IsRefusal bytes (Device device) = ⊥

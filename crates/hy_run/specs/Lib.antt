@@ -1,11 +1,7 @@
 pub use Rattle.hy_rules.specs.Moves
 pub use Rattle.hy_rules.specs.Runs
 pub use Rattle.hy_rules.specs.Texts
-pub mod Form
-pub mod Parts
 pub mod Calls
-pub mod Sums
-pub mod Simulation
 pub mod Output
 pub mod Inspection
 pub mod Obeying

@@ -1,5 +1,5 @@
 -- What a line of the command line asks for, and what becomes of it.
-use Rattle.std.specs.Prelude.{◌≡◌, ◌⊎◌, ℕ, Bool, IsTrue, List, Option, Some, Result, Ok, Err, IfOk, IfErr, ⊤}
+use Rattle.std.specs.Prelude.{◌≡◌, ◌⊎◌, ℕ, Bool, true, IsTrue, List, Option, Some, Result, Ok, Err, IfOk, IfErr, ⊤}
 use Rattle.std.specs.Io.KnownBytes.{Appends, IsAtEnd, Keeps}
 use Rattle.hy_base.specs.Faults.{Rose}
 use Rattle.hy_base.specs.Spelling.{Text}
@@ -8,7 +8,8 @@ use Rattle.hy_cli.specs.declared.line.Line.{Line}
 use Rattle.hy_cli.specs.declared.line.Line.TheVariants.{Sim, Recover, Check}
 use Rattle.hy_disk.specs.Content.{Content}
 use Rattle.hy_run.specs.Calls.{IsReadFault}
-use Rattle.hy_run.specs.Form.{Input, read_source}
+use Rattle.hy_input.specs.Source.{read_source}
+use Rattle.hy_input.specs.declared.input.Input.{Input}
 use Rattle.hy_run.specs.Inspection.{IsInspected, IsLogFault, IsReport}
 use Rattle.hy_run.specs.Output.{IsOutput, LeavesSource, WritesPartOf}
 use Rattle.hy_run.specs.declared.inspect.Report.TheVariants.{Dump, Verdicts}
@@ -29,7 +30,7 @@ IsTextOf Check told tells seen text = IsReport Verdicts tells (recovered seen) t
 
 -- Nothing on the way to its text is wrong: the script can be read and each event of its schedule may happen in its turn, or the log is one, of lawful entries.
 abbrev pub CanBeObeyed : Line → Option Text → Bool → List ℕ → Type 0
-CanBeObeyed (Sim threads) told tells seen = (bytes : Text) × (input : Input) × (told ≡ Some bytes) × (read_source bytes ≡ Ok input)
+CanBeObeyed (Sim threads) told tells seen = (bytes : Text) × (input : Input) × (told ≡ Some bytes) × (read_source bytes true ≡ Ok input)
 CanBeObeyed Recover told tells seen = IsTrue tells × ((r : Recovered) × (recovered seen ≡ Ok r))
 CanBeObeyed Check told tells seen = IsTrue tells × ((r : Recovered) × (recovered seen ≡ Ok r))
 

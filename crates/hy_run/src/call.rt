@@ -1,36 +1,41 @@
 //! The top call: all that the program does.
-ghost use Rattle.std.specs.Prelude.{◌≡◌, ◌≢◌, ◌≤◌, ◌++◌, ◌⊎◌, ℕ, length, None, Some, Ok, Err, IfOk, IfSome, IfErr, OnOk, OnErr, IsTrue, false};
+ghost use Rattle.std.specs.Prelude.{◌≡◌, ◌≢◌, ◌≤◌, ◌++◌, ◌⊎◌, ℕ, length, None, Some, Ok, Err, IfOk, IfSome, IfErr, OnOk, OnErr, IsTrue, true, false};
+ghost use Rattle.std.specs.List.{AllByRecursion};
 ghost use Rattle.std.specs.Io.KnownBytes.{Appends, Keeps, IsAtEnd};
 ghost use Rattle.hy_base.specs.Faults.{HasCause, Rose};
 ghost use Rattle.hy_io.specs.Whole.{GivesAtMost};
 ghost use Rattle.hy_rules.specs.LogFormat.{Held, log_in};
 ghost use Rattle.hy_rules.specs.Recovery.{log_fault_text, recovered};
-ghost use Rattle.hy_cli.specs.CommandLine.{line_of, names_command};
+ghost use Rattle.hy_cli.specs.CommandLine.{IsInRange, line_of, names_command};
 ghost use Rattle.hy_cli.specs.Matches.{Asks, refuses};
 ghost use Rattle.hy_rules.specs.Texts.{trace_text, report_text};
 ghost use Rattle.hy_base.specs.Script.{IsScript};
 ghost use Rattle.hy_base.specs.Spelling.{Text};
-ghost use Rattle.hy_run.specs.Calls.{IsFirstInput, IsReadFault, IsRefusal, IsRunOf};
-ghost use Rattle.hy_run.specs.Form.{Input, lines_of, read_form, read_source};
-ghost use Rattle.hy_run.specs.Parts.{input_of};
+ghost use Rattle.hy_base.specs.Shape.{IsWithin};
+ghost use Rattle.hy_script.specs.Laws.{IsEventSpellable, IsSpellable};
+ghost use Rattle.hy_script.specs.Reading.{refused};
+ghost use Rattle.hy_input.specs.Source.{read_input, read_source};
+ghost use Rattle.hy_run.specs.Calls.{IsReadFault, IsRefusal, IsRunOf};
 ghost use Rattle.hy_run.specs.Obeying.{CanBeObeyed, IsAnswered, IsConcluded, IsTextOf, LeavesLog, LeavesSourceBy, LeavesSourceThen, LooksAtLog};
 ghost use Rattle.hy_run.specs.Output.{IsOutput, IsRefused, LeavesSource, WritesLine, WritesPartOf, fault_text};
 
 use crate::inspect::{Inspected, Report, inspect};
-use crate::reader::{self, ReadError, read_input};
-use crate::simulation::{SimulateError, Simulated, simulate};
+use crate::simulate::{SimulateError, Simulated, simulate};
 use crate::status::{Done, Status, Which};
-use crate::why::Why;
 use hy_base::Words;
 use hy_cli::{CliError, Line, parse};
 use hy_disk::Disk;
+use hy_input::{Input, read_input};
 use hy_io::{ReadAllError, Sink, SinkFault, Source, read_all, write_all_counted};
+use hy_pipe::Gate;
 use hy_rules::{Damage, LogFault, LogPlace};
+use hy_script::{ReadError, Why};
 use hy_text::{
     device_line, entry_line, memory_line, page_line, script_line, source_line, usage_line,
     write_report, write_trace,
 };
 use std::alloc::{AllocError, Global};
+use std::thread::Threads;
 
 /// The most bytes that a script may have.
 const LONGEST: usize = 16777216;
@@ -45,19 +50,31 @@ fn text_of(alloc: Global, run: &Simulated) -> Result<Vec<u8>, AllocError>
     Ok(text)
 }
 
-// The run of an input.
-#[tactic(auto, using(crate::proofs::FirstForm::first_form, crate::proofs::Sources::disabled_within, crate::proofs::Sources::run_read, crate::proofs::Sources::read_disabled))]
-fn run_input(alloc: Global, input: &reader::Input) -> Result<Simulated, Status>
-    requires script { IsScript input.now.script }
-    requires first { IsFirstInput (input_of input.now) }
-    requires lines { length input.now.schedule ≤ input.now.lines }
-    ensures run { IfOk result (λ run. (bytes : Text) → read_form bytes ≡ Ok (input_of input.now) → IsRunOf bytes run.events.items run.results) }
-    ensures refused { IfErr result (λ status. (bytes : Text) → read_form bytes ≡ Ok (input_of input.now) → input.now.lines ≡ length (lines_of bytes) → IsRefusal bytes status) }
+// Runs an input that was read from some bytes.
+#[tactic(auto, using(crate::proofs::Sources::calm_events, hy_input::proofs::Refusals::disabled_within, crate::proofs::Sources::run_read, crate::proofs::Sources::read_disabled))]
+fn run_input<R: Threads + Sync, G: Gate + Sync>(
+    rt: &R,
+    alloc: Global,
+    input: Input,
+    threads: usize,
+    gate: &G,
+) -> Result<Simulated, Status>
+    requires script { IsSpellable input.script }
+    requires events { AllByRecursion (IsEventSpellable input.script) input.schedule }
+    requires lines { length input.lines ≡ length input.schedule }
+    requires threads { IsWithin 1 16 threads }
+    ensures run { IfOk result (λ run. (bytes : Text) → read_input bytes true ≡ Ok input → IsRunOf bytes run.events.items run.results) }
+    ensures refused { IfErr result (λ status. (bytes : Text) → read_input bytes true ≡ Ok input → IsRefusal bytes status) }
 {
-    match simulate(alloc, &input.script, input.schedule.as_slice()) {
+    let Input {
+        script,
+        schedule,
+        lines,
+    } = input;
+    match simulate(rt, alloc, script, schedule, threads, gate) {
         Ok(run) => Ok(run),
         Err(SimulateError::Disabled { index }) => Err(Status::Script {
-            line: input.event_line(index),
+            line: lines.as_slice()[index],
             why: Why::Disabled,
         }),
         Err(SimulateError::Memory) => Err(Status::Memory),
@@ -65,24 +82,41 @@ fn run_input(alloc: Global, input: &reader::Input) -> Result<Simulated, Status>
 }
 
 // The run that a script's bytes ask for.
-#[tactic(auto, using(crate::proofs::FirstForm::first_input_read, crate::proofs::Sources::read_refused))]
-fn run_of(alloc: Global, bytes: &[u8]) -> Result<Simulated, Status>
+#[tactic(auto, using(crate::proofs::Sources::read_refused))]
+fn run_of<R: Threads + Sync, G: Gate + Sync>(
+    rt: &R,
+    alloc: Global,
+    bytes: &[u8],
+    threads: usize,
+    gate: &G,
+) -> Result<Simulated, Status>
+    requires threads { IsWithin 1 16 threads }
     ensures run { IfOk result (λ run. IsRunOf bytes.now run.events.items run.results) }
     ensures refused { IfErr result (λ status. IsRefusal bytes.now status) }
 {
-    match read_input(alloc, bytes) {
-        Ok(input) => run_input(alloc, &input),
-        Err(ReadError::Refused { line, why }) => Err(Status::Script { line, why }),
+    match read_input(alloc, bytes, true) {
+        Ok(input) => run_input(rt, alloc, input, threads, gate),
+        Err(ReadError::Refused(fault)) => Err(Status::Script {
+            line: fault.line,
+            why: fault.why,
+        }),
         Err(ReadError::Memory) => Err(Status::Memory),
     }
 }
 
 // The text of the run that a script's bytes ask for.
-fn output_of(alloc: Global, bytes: &[u8]) -> Result<Vec<u8>, Status>
+fn output_of<R: Threads + Sync, G: Gate + Sync>(
+    rt: &R,
+    alloc: Global,
+    bytes: &[u8],
+    threads: usize,
+    gate: &G,
+) -> Result<Vec<u8>, Status>
+    requires threads { IsWithin 1 16 threads }
     ensures output { IfOk result (λ text. IsOutput (Some bytes.now) text.items) }
     ensures refused { IfErr result (λ status. IsRefusal bytes.now status) }
 {
-    let run = run_of(alloc, bytes)?;
+    let run = run_of(rt, alloc, bytes, threads, gate)?;
     match text_of(alloc, &run) {
         Ok(text) => Ok(text),
         Err(_) => Err(Status::Memory),
@@ -113,7 +147,14 @@ fn read_bytes<S: Source>(alloc: Global, source: &mut S) -> Result<Vec<u8>, Statu
 
 // The text of the run that a source asks for.
 #[tactic(auto, using(crate::proofs::Sources::output_of, crate::proofs::Sources::refusal_of, crate::proofs::Sources::left_so))]
-fn simulated_text<S: Source>(alloc: Global, source: &mut S) -> Result<Vec<u8>, Status>
+fn simulated_text<R: Threads + Sync, S: Source, G: Gate + Sync>(
+    rt: &R,
+    alloc: Global,
+    source: &mut S,
+    threads: usize,
+    gate: &G,
+) -> Result<Vec<u8>, Status>
+    requires threads { IsWithin 1 16 threads }
     ensures output { IfOk result (λ text. IsOutput (S.left source.old) text.items) }
     ensures end { IfOk result (λ _. IsAtEnd (S.left source.new)) }
     ensures refused { IfErr result (IsReadFault (S.left source.old) (S.faults source.old) (S.faults source.new)) }
@@ -122,12 +163,20 @@ fn simulated_text<S: Source>(alloc: Global, source: &mut S) -> Result<Vec<u8>, S
     ensures count { S.faults source.old ≤ S.faults source.new }
 {
     let bytes = read_bytes(alloc, source)?;
-    output_of(alloc, &bytes)
+    output_of(rt, alloc, &bytes, threads, gate)
 }
 
 // What a line asks for: the text, or why there is none, and the log's device.
 #[tactic(auto, using(crate::proofs::Obeying::keeps_front))]
-fn answer<S: Source, D: Disk>(alloc: Global, line: Line, source: &mut S, log: D) -> Inspected<D>
+fn answer<R: Threads + Sync, S: Source, D: Disk, G: Gate + Sync>(
+    rt: &R,
+    alloc: Global,
+    line: Line,
+    source: &mut S,
+    log: D,
+    gate: &G,
+) -> Inspected<D>
+    requires { IsInRange line }
     ensures text { IsAnswered (λ bytes. bytes.items) line (S.left source.old) (S.faults source.old) (S.faults source.new) D.tells (D.content log).seen (D.faults_of log) (D.faults_of result.log) result.text }
     ensures source { LeavesSourceThen line result.text (S.left source.old) (S.left source.new) }
     ensures front { GivesAtMost (S.left source.old) (S.left source.new) 16777217 }
@@ -137,8 +186,8 @@ fn answer<S: Source, D: Disk>(alloc: Global, line: Line, source: &mut S, log: D)
     ensures device_count { D.faults_of log ≤ D.faults_of result.log }
 {
     match line {
-        Line::Sim { threads: _ } => Inspected {
-            text: simulated_text(alloc, source),
+        Line::Sim { threads } => Inspected {
+            text: simulated_text(rt, alloc, source, threads as usize, gate),
             log,
             acked: 0,
         },
@@ -252,13 +301,15 @@ fn conclude<K: Sink>(alloc: Global, sink: &mut K, text: Result<Vec<u8>, Status>)
 /// the log is refused at its first page that is none of a log, or where all pages are good at its first entry; `Sink`, the
 /// sink failed; `Memory`, memory was wanting. The words are looked at first, then the source and the script, or the log,
 /// and then the sink.
-pub fn hyder_call<S: Source, K: Sink, D: Disk>(
+pub fn hyder_call<R: Threads + Sync, S: Source, K: Sink, D: Disk, G: Gate + Sync>(
+    rt: &R,
     alloc: Global,
     words: &Words,
     source: &mut S,
     sink: &mut K,
     log: D,
     points: D,
+    gate: &G,
 ) -> Done<D>
     // The words: a line is obeyed, and a first word that is no command isn't.
     ensures usage { result.status ≡ Status.Usage → refuses words.now }
@@ -284,7 +335,7 @@ pub fn hyder_call<S: Source, K: Sink, D: Disk>(
     // When it must come, unless memory runs out or an end fails.
     ensures fine_always { (line : Line) → line_of words.now ≡ Some line → CanBeObeyed line (S.left source.old) D.tells (D.content log).seen
         → (result.status ≡ Status.Fine) ⊎ ((result.status ≡ Status.Memory) ⊎ (Rose (S.faults source.old) (S.faults source.new) ⊎ (Rose (D.faults_of log) (D.faults_of result.log) ⊎ Rose (K.faults sink.old) (K.faults sink.new)))) }
-    ensures script_always { (threads : ℕ) → line_of words.now ≡ Some (Line.Sim threads) → IfSome (S.left source.old) (λ bytes. (n : ℕ) (why : Why) → read_source bytes ≡ Err (n, why)
+    ensures script_always { (threads : ℕ) → line_of words.now ≡ Some (Line.Sim threads) → IfSome (S.left source.old) (λ bytes. (n : ℕ) (why : Why) → read_source bytes true ≡ refused n why
         → (result.status ≡ Status.Script n why) ⊎ ((result.status ≡ Status.Memory) ⊎ Rose (S.faults source.old) (S.faults source.new))) }
     ensures log_always { (line : Line) → line_of words.now ≡ Some line → LooksAtLog line → IsTrue D.tells → (fault : LogFault) → recovered (D.content log).seen ≡ Err fault
         → (result.status ≡ Status.Log fault.place fault.why) ⊎ ((result.status ≡ Status.Memory) ⊎ Rose (D.faults_of log) (D.faults_of result.log)) }
@@ -302,7 +353,7 @@ pub fn hyder_call<S: Source, K: Sink, D: Disk>(
 {
     match parse(alloc, words) {
         Ok(line) => {
-            let answer = answer(alloc, line, source, log);
+            let answer = answer(rt, alloc, line, source, log, gate);
             Done {
                 status: conclude(alloc, sink, answer.text),
                 log: answer.log,

@@ -3,9 +3,9 @@ ghost use Rattle.std.specs.Prelude.{◌≡◌};
 ghost use Rattle.hy_run.specs.declared.status.Status.TheVariants.{Memory};
 ghost use Rattle.hy_run.specs.Output.{status_number, which_text};
 
-use crate::Why;
 use hy_base::Pos;
 use hy_rules::{Damage, LogPlace};
+use hy_script::Why;
 use std::alloc::AllocError;
 
 /// One of the two devices that a call is given.

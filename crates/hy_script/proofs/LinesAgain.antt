@@ -13,7 +13,6 @@ use Rattle.hy_base.specs.Spelling.{Text}
 use Rattle.hy_base.specs.Value.{is_value}
 use Rattle.hy_script.specs.Fields.{and_then, number_field, one_number, two_numbers, three_numbers, number_and_text}
 use Rattle.hy_script.specs.Forms.{is_blank}
-use Rattle.hy_script.specs.ForNow.{IsShapeForNow, is_shape_for_now}
 use Rattle.hy_script.specs.Grammar.{is_shape, last_program_count}
 use Rattle.hy_script.specs.Laws.{FitsFields}
 use Rattle.hy_script.specs.ScriptFields.{listing_line, number_within, one_more, program_line, servers_line, shape_line}
@@ -61,18 +60,17 @@ if_so false x y e = cc
 same : (a b : ℕ) → a ≡ b → (a == b) ≡ true
 same a b e = grind (arith, nat_tests)
 
-shape_is : (shape : Shape) → IsGoodShape shape → IsShapeForNow shape → is_shape shape.group shape.window shape.cap ≡ true
-shape_is shape good now =
-    and_from (is_shape_for_now shape.group shape.window) _ (and_from (shape.group == 1) (shape.window == 1) (same shape.group 1 now.0) (same shape.window 1 now.1))
+shape_is : (shape : Shape) → IsGoodShape shape → is_shape shape.group shape.window shape.cap ≡ true
+shape_is shape good =
     (and_from (is_within 1 8 shape.group) _ (within_is 1 8 shape.group good.group)
     (and_from (is_within 1 64 shape.window) _ (within_is 1 64 shape.window good.window)
     (and_from (is_within shape.group 2147483648 shape.cap) (shape.cap % shape.group == 0) (within_is shape.group 2147483648 shape.cap good.cap) (same (shape.cap % shape.group) 0 good.whole_groups))))
 
-pub shape_again : (shape : Shape) → IsGoodShape shape → IsShapeForNow shape → shape_line (codes "shape" ∷ decimal shape.group ∷ decimal shape.window ∷ decimal shape.cap ∷ []) ≡ Ok shape
-shape_again shape good now =
+pub shape_again : (shape : Shape) → IsGoodShape shape → shape_line (codes "shape" ∷ decimal shape.group ∷ decimal shape.window ∷ decimal shape.cap ∷ []) ≡ Ok shape
+shape_again shape good =
     ap (λ read. and_then read (λ p. if is_shape p.0 p.1 p.2 then Ok (record { group = p.0; window = p.1; cap = p.2 }) else Err Range))
     (three_again shape.group shape.window shape.cap (omega (arith, good.group.at_most)) (omega (arith, good.window.at_most)) (omega (arith, good.cap.at_most)))
-    ∙ if_so (is_shape shape.group shape.window shape.cap) (Ok shape) (Err Range) (shape_is shape good now)
+    ∙ if_so (is_shape shape.group shape.window shape.cap) (Ok shape) (Err Range) (shape_is shape good)
 
 within_again : (low high n : ℕ) → high < 2 ^ 64 → IsWithin low high n → number_within low high (decimal n ∷ []) ≡ Ok n
 within_again low high n small w =

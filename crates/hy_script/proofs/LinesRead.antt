@@ -10,7 +10,6 @@ use Rattle.hy_base.specs.Shape.{IsWithin, IsGoodShape, is_within}
 use Rattle.hy_base.specs.Spelling.{Text}
 use Rattle.hy_base.specs.Value.{is_value}
 use Rattle.hy_script.specs.Fields.{and_then, one_number, two_numbers, three_numbers, number_and_text, no_fields}
-use Rattle.hy_script.specs.ForNow.{IsShapeForNow, is_shape_for_now}
 use Rattle.hy_script.specs.Grammar.{is_shape, last_program_count}
 use Rattle.hy_script.specs.Laws.{FitsFields}
 use Rattle.hy_script.specs.ScriptFields.{client_fields, begin_fields, listing_line, number_within, one_more, program_line, put_fields, scan_fields, servers_line, shape_fields, shape_line}
@@ -27,18 +26,13 @@ use Rattle.hy_script.proofs.FieldsRead.{and_then_was, branch, if_was, none_was, 
 pub record IsShapeLine (words : List Text) (shape : Shape) : Type 0 where
   pub are : words ≡ codes "shape" ∷ decimal shape.group ∷ decimal shape.window ∷ decimal shape.cap ∷ []
   pub good : IsGoodShape shape
-  pub for_now : IsShapeForNow shape
 
-shape_tests : (p : ℕ × ℕ × ℕ) → is_shape p.0 p.1 p.2 ≡ true → IsGoodShape (record { group = p.0; window = p.1; cap = p.2 }) × IsShapeForNow (record { group = p.0; window = p.1; cap = p.2 })
+shape_tests : (p : ℕ × ℕ × ℕ) → is_shape p.0 p.1 p.2 ≡ true → IsGoodShape (record { group = p.0; window = p.1; cap = p.2 })
 shape_tests p e =
-    let a = and_parts (is_shape_for_now p.0 p.1) _ e in
-    let b = and_parts (p.0 == 1) (p.1 == 1) a.0 in
-    let c = and_parts (is_within 1 8 p.0) _ a.1 in
+    let c = and_parts (is_within 1 8 p.0) _ e in
     let d = and_parts (is_within 1 64 p.1) _ c.1 in
-    let f = and_parts (is_within p.0 2147483648 p.2) (p.2 % p.0 == 0) d.1 in (
-      record { group = within_was 1 8 p.0 c.0; window = within_was 1 64 p.1 d.0; cap = within_was p.0 2147483648 p.2 f.0; whole_groups = eqb-true (p.2 % p.0) 0 f.1 },
-      (eqb-true p.0 1 b.0, eqb-true p.1 1 b.1),
-    )
+    let f = and_parts (is_within p.0 2147483648 p.2) (p.2 % p.0 == 0) d.1 in
+    record { group = within_was 1 8 p.0 c.0; window = within_was 1 64 p.1 d.0; cap = within_was p.0 2147483648 p.2 f.0; whole_groups = eqb-true (p.2 % p.0) 0 f.1 }
 
 pub shape_was : (words : List Text) (shape : Shape) → shape_line words ≡ Ok shape → IsShapeLine words shape
 shape_was [] shape e = cc
@@ -50,7 +44,7 @@ shape_was (word ∷ fields) shape e =
     let tested = if_was (is_shape p.0 p.1 p.2) (Ok (record { group = p.0; window = p.1; cap = p.2 })) Range shape read.2 in
     let good = shape_tests p tested.0 in
     let same : record { group = p.0; window = p.1; cap = p.2 } ≡ shape = cc (tested.1) in
-    subst (IsShapeLine (word ∷ fields)) same (record { are = words_are word (codes "shape") fields _ named.0 numbers.words; good = good.0; for_now = good.1 })
+    subst (IsShapeLine (word ∷ fields)) same (record { are = words_are word (codes "shape") fields _ named.0 numbers.words; good = good })
 
 pub number_within_was : (low high : ℕ) (fields : List Text) (n : ℕ) → number_within low high fields ≡ Ok n → (fields ≡ decimal n ∷ []) × IsWithin low high n
 number_within_was low high fields n e =

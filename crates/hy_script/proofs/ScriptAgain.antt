@@ -15,7 +15,6 @@ use Rattle.hy_base.specs.declared.workload.Program.{Program}
 use Rattle.hy_base.specs.Script.{Workload, IsClient, IsCommand, IsProgram, client_count}
 use Rattle.hy_base.specs.Shape.{IsGoodShape, IsWithin}
 use Rattle.hy_base.specs.Spelling.{Text}
-use Rattle.hy_script.specs.ForNow.{IsShapeForNow}
 use Rattle.hy_script.specs.Grammar.{Place, Outset, Shaped, Listing, Programming, change_last, gains_program, last_program_count, with_program}
 use Rattle.hy_script.specs.Laws.{ClientFits, FitsFields, IsSpellable, ProgramFits, ReadsItsSpelling}
 use Rattle.hy_script.specs.Lines.{lines_of, numbered_lines, words_of}
@@ -71,14 +70,14 @@ one_line sim place last words speech leads = record {
 
 -- what the lines of a place lead to, by their words
 
-shape_walks : (sim : Bool) (shape : Shape) → IsGoodShape shape → IsShapeForNow shape → Walks sim Outset ((codes "shape" ∷ decimal shape.group ∷ decimal shape.window ∷ decimal shape.cap ∷ []) ∷ []) (Shaped shape)
-shape_walks sim shape good now =
+shape_walks : (sim : Bool) (shape : Shape) → IsGoodShape shape → Walks sim Outset ((codes "shape" ∷ decimal shape.group ∷ decimal shape.window ∷ decimal shape.cap ∷ []) ∷ []) (Shaped shape)
+shape_walks sim shape good =
     one_line sim Outset (Shaped shape) _
     (record {
       visible = (refl, (visible_decimal shape.group (omega (arith, good.group.at_most)), (visible_decimal shape.window (omega (arith, good.window.at_most)), (visible_decimal shape.cap (omega (arith, good.cap.at_most)), tt))));
       says_some = refl;
     })
-    (λ number line e. sym (shape_leads sim number (words_of line)) ∙ ap (leading Shaped) (ap shape_line e ∙ shape_again shape good now))
+    (λ number line e. sym (shape_leads sim number (words_of line)) ∙ ap (leading Shaped) (ap shape_line e ∙ shape_again shape good))
 
 servers_walk : (sim : Bool) (shape : Shape) (n : ℕ) → IsWithin 1 8 n → Walks sim (Shaped shape) ((codes "servers" ∷ decimal n ∷ []) ∷ []) (served shape n)
 servers_walk sim shape n within =
@@ -211,7 +210,7 @@ script_walks sim script s =
     let shape = script.shape in
     then_walks sim Outset (Shaped shape) (Listing script) ((codes "shape" ∷ decimal shape.group ∷ decimal shape.window ∷ decimal shape.cap ∷ []) ∷ [])
     ((codes "servers" ∷ decimal script.servers ∷ []) ∷ flat_map client_lines script.clients)
-    (shape_walks sim shape s.lawful.shape s.for_now)
+    (shape_walks sim shape s.lawful.shape)
     (then_walks sim (Shaped shape) (served shape script.servers) (Listing script) ((codes "servers" ∷ decimal script.servers ∷ []) ∷ []) (flat_map client_lines script.clients)
     (servers_walk sim shape script.servers s.lawful.servers)
     (clients_walk sim script [] script.clients s.clients s.lawful.clients s.lawful.servers.at_most s.lawful.client_count))

@@ -8,7 +8,6 @@ use Rattle.hy_base.specs.declared.workload.Client.{Client}
 use Rattle.hy_base.specs.Script.{Workload, IsProgram, IsScript, client_count}
 use Rattle.hy_base.specs.Shape.{IsGoodShape, IsWithin}
 use Rattle.hy_base.specs.Spelling.{Text}
-use Rattle.hy_script.specs.ForNow.{IsShapeForNow}
 use Rattle.hy_script.specs.Grammar.{Place, Outset, Shaped, Listing, Programming, Scheduled, change_last, gains_program, last_program_count, with_client, with_program}
 use Rattle.hy_script.specs.Laws.{ClientFits, FitsFields, IsSaidBy, IsSpellable, ProgramFits, SpellsWhatItReads, words_by_line}
 use Rattle.hy_script.specs.Lines.{numbered_lines, words_of}
@@ -64,7 +63,7 @@ record IsOpen (script : Workload) (commands : List Command) : Type 0 where
 
 abbrev IsReached : Place → Type 0
 IsReached Outset = ⊤
-IsReached (Shaped shape) = IsGoodShape shape × IsShapeForNow shape
+IsReached (Shaped shape) = IsGoodShape shape
 IsReached (Listing script) = IsSpellable script
 IsReached (Programming script commands) = IsOpen script commands
 IsReached (Scheduled script start) = IsSpellable script
@@ -95,15 +94,15 @@ module _ (sim : Bool) (p : ℕ × Text) (next : Place) where
   from_outset e =
       let step = leading_was Shaped (shape_line (words_of p.1)) next (shape_leads sim p.0 (words_of p.1) ∙ e) in
       let was = shape_was (words_of p.1) step.0 step.1 in
-      subst (Follows [] p) step.2 ((was.good, was.for_now), ap (λ w. w ∷ []) (sym was.are))
+      subst (Follows [] p) step.2 (was.good, ap (λ w. w ∷ []) (sym was.are))
 
-  from_shaped : (shape : Shape) → IsGoodShape shape → IsShapeForNow shape → place_after sim (Shaped shape) p ≡ Ok next → Follows (said (Shaped shape)) p next
-  from_shaped shape good now e =
+  from_shaped : (shape : Shape) → IsGoodShape shape → place_after sim (Shaped shape) p ≡ Ok next → Follows (said (Shaped shape)) p next
+  from_shaped shape good e =
       let step = leading_was (served shape) (servers_line (words_of p.1)) next (servers_leads sim shape p.0 (words_of p.1) ∙ e) in
       let was = servers_was (words_of p.1) step.0 step.1 in
       let lawful : IsScript (record { shape = shape; servers = step.0; clients = [] }) =
       record { shape = good; servers = was.1; clients = λ k d below. absurd (omega (arith, below)); client_count = λ k. omega arith } in
-      subst (Follows (said (Shaped shape)) p) step.2 (record { lawful = lawful; clients = tt; for_now = now }, ap (λ w. said (Shaped shape) ++ w ∷ []) (sym was.0))
+      subst (Follows (said (Shaped shape)) p) step.2 (record { lawful = lawful; clients = tt }, ap (λ w. said (Shaped shape) ++ w ∷ []) (sym was.0))
 
 -- between programs
 
@@ -111,7 +110,6 @@ spellable_client : (script : Workload) (server : ℕ) → IsSpellable script →
 spellable_client script server s within room = record {
   lawful = client_kept script.shape script.servers server script.clients s.lawful within room;
   clients = all_push ClientFits script.clients (record { server = server; programs = [] }) s.clients tt;
-  for_now = s.for_now;
 }
 
 client_said : (script : Workload) (server : ℕ) (words : List Text) → words ≡ codes "client" ∷ decimal server ∷ [] → script_lines (with_client server script) ≡ script_lines script ++ words ∷ []
@@ -170,7 +168,6 @@ spellable_program : (script : Workload) (commands : List Command) → IsOpen scr
 spellable_program script commands s = record {
   lawful = program_lawful script commands s.script_is.lawful s;
   clients = changed_fits commands script.clients s.fits s.script_is.clients;
-  for_now = s.script_is.for_now;
 }
 
 program_said : (script : Workload) (commands : List Command) (words : List Text) → 0 < length script.clients → words ≡ codes "end" ∷ []
@@ -218,7 +215,7 @@ IsUnscheduled (Scheduled script start) = ⊥
 
 step_was : (sim : Bool) (p : ℕ × Text) (place next : Place) → IsUnscheduled place → IsReached place → place_after sim place p ≡ Ok next → Follows (said place) p next
 step_was sim p Outset next going reached e = from_outset sim p next e
-step_was sim p (Shaped shape) next going reached e = from_shaped sim p next shape reached.0 reached.1 e
+step_was sim p (Shaped shape) next going reached e = from_shaped sim p next shape reached e
 step_was sim p (Listing script) next going reached e = from_listing sim p next script reached e
 step_was sim p (Programming script commands) next going reached e = from_programming sim p next script commands reached e
 step_was sim p (Scheduled script start) next going reached e = absurd going

@@ -1,17 +1,9 @@
 -- What the first stages of the program don't do, and what is refused for that. To lift a restriction, delete its definitions here and each of their uses.
-use Rattle.std.specs.Prelude.{◌≡◌, ℕ, Bool, ◌&&◌, not, ◌==◌, List, codes, ⊤}
-use Rattle.hy_base.specs.declared.layout.Shape.{Shape}
+use Rattle.std.specs.Prelude.{Bool, not, List, codes, ⊤}
 use Rattle.hy_base.specs.declared.workload.Event.{Event}
 use Rattle.hy_base.specs.declared.workload.Event.TheVariants.{Begin, Append, End, Refuse, Pad, Publish, Stop}
 use Rattle.hy_base.specs.Spelling.{Text}
 use Rattle.hy_script.specs.Lines.{has_first_word}
-
--- FOR NOW groups and windows have one position.
-abbrev pub is_shape_for_now : ℕ → ℕ → Bool
-is_shape_for_now group window = (group == 1) && (window == 1)
-
-abbrev pub IsShapeForNow : Shape → Type 0
-IsShapeForNow shape = (shape.group ≡ 1) × (shape.window ≡ 1)
 
 -- FOR NOW no stop can be ordered.
 abbrev pub is_event_for_now : List Text → Bool

@@ -10,7 +10,7 @@ use Rattle.hy_base.specs.Script.{Workload, client_count}
 use Rattle.hy_base.specs.Shape.{is_within}
 use Rattle.hy_base.specs.Value.{is_value}
 use Rattle.hy_base.specs.Spelling.{Text}
-use Rattle.hy_script.specs.ForNow.{is_shape_for_now, is_event_for_now}
+use Rattle.hy_script.specs.ForNow.{is_event_for_now}
 use Rattle.hy_script.specs.Forms.{Meaning, LineForm, Alone, OneNumber, TwoNumbers, ThreeNumbers, NumberAndText, read_line}
 use Rattle.hy_script.specs.declared.why.Why.{Why}
 use Rattle.hy_script.specs.declared.why.Why.TheVariants.{Word, Value, Range, Order, Count}
@@ -60,8 +60,7 @@ with_program commands script = record script { clients = change_last (gains_prog
 -- the ranges of a shape: whole groups of 1 to 8 up to the capacity, and windows of 1 to 64
 abbrev pub is_shape : ℕ → ℕ → ℕ → Bool
 is_shape group window cap =
-    is_shape_for_now group window &&
-    (is_within 1 8 group && (is_within 1 64 window && (is_within group 2147483648 cap && (cap % group == 0))))
+    is_within 1 8 group && (is_within 1 64 window && (is_within group 2147483648 cap && (cap % group == 0)))
 
 -- shape G W CAP
 abbrev pub shape_form : LineForm Place

@@ -10,7 +10,7 @@ use Rattle.hy_base.specs.declared.workload.Program.{Program}
 use Rattle.hy_base.specs.Script.{Workload, IsScript}
 use Rattle.hy_base.specs.Shape.{IsWithin}
 use Rattle.hy_base.specs.Spelling.{Text, event_words}
-use Rattle.hy_script.specs.ForNow.{IsShapeForNow, IsEventForNow}
+use Rattle.hy_script.specs.ForNow.{IsEventForNow}
 use Rattle.hy_script.specs.Lines.{numbered_lines, words_of}
 use Rattle.hy_script.specs.Reading.{read_script, read_schedule}
 use Rattle.hy_script.specs.Spelling.{script_lines, script_text, schedule_text, input_text}
@@ -36,7 +36,6 @@ ClientFits c = AllByRecursion ProgramFits c.programs
 pub record IsSpellable (script : Workload) : Type 0 where
   pub lawful : IsScript script
   pub clients : AllByRecursion ClientFits script.clients
-  pub for_now : IsShapeForNow script.shape
 
 -- an event of declared clients and servers
 abbrev pub IsEventOf : Workload → Event → Type 0

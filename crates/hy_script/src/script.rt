@@ -70,10 +70,6 @@ fn shape_of(fields: Fields<'_>) -> Result<Shape, Why>
     ensures good { IfOk result IsGoodShape }
 {
     let (group, window, cap) = three_numbers(fields)?;
-    // FOR NOW groups and windows have one position. (To lift it, delete this test.)
-    if group != 1 || window != 1 {
-        return Err(Why::Range);
-    }
     if group < 1 || group > 8 || window < 1 || window > 64 {
         return Err(Why::Range);
     }

@@ -5,7 +5,7 @@ use Rattle.hy_rules.specs.declared.damage.LogPlace.{LogPlace}
 use Rattle.hy_run.specs.Output.{status_number}
 use Rattle.hy_run.specs.declared.status.Status.{Status}
 use Rattle.hy_run.specs.declared.status.Status.TheVariants.{Fine, Usage, Script, Source, Sink, Device, Log, Memory}
-use Rattle.hy_run.specs.declared.why.Why.{Why}
+use Rattle.hy_script.specs.declared.why.Why.{Why}
 
 -- status 2 comes of a script that is refused, for which P holds
 pub refused : (status : Status) (P : ℕ → Why → Type 0) → ((n : ℕ) (why : Why) → status ≡ Script n why → P n why) → status_number status ≡ 2 → (n : ℕ) × (why : Why) × P n why

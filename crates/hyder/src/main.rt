@@ -21,15 +21,17 @@ ghost use Rattle.hy_rules.specs.Recovery.{recovered};
 ghost use Rattle.hy_rules.specs.Texts.{usage_text};
 ghost use Rattle.hy_run.specs.Obeying.{IsTextOf};
 ghost use Rattle.hy_run.specs.Output.{IsRefused, WritesLine, WritesPartOf, status_number};
-ghost use Rattle.hy_run.specs.declared.why.Why.{Why};
+ghost use Rattle.hy_script.specs.declared.why.Why.{Why};
 
 use hy_base::Words;
 use hy_disk::Disk;
 use hy_file::FileDisk;
 use hy_io::{Sink, Source, StdSink, StdSource};
+use hy_pipe::{Gate, OpenGate};
 use hy_run::{Status, hyder_call};
 use std::alloc::{AllocError, Global};
 use std::process::ExitCode;
+use std::thread::Threads;
 use std::{env, io};
 
 // The words that a list of arguments holds.
@@ -60,13 +62,15 @@ fn exit_code(status: Status) -> ExitCode
 }
 
 // Does what the words ask for, and says by the exit status how it ended.
-fn call<S: Source, K: Sink, D: Disk + Drop>(
+fn call<R: Threads + Sync, S: Source, K: Sink, D: Disk + Drop, G: Gate + Sync>(
+    rt: &R,
     alloc: Global,
     words: &Words,
     source: &mut S,
     sink: &mut K,
     log: D,
     points: D,
+    gate: &G,
 ) -> ExitCode
     // What each exit status says.
     ensures fine { exit_status result ≡ 0 → (line : Line) × (text : Text) × Asks words.now line × IsTextOf line (S.left source.old) D.tells (D.content log).seen text × Appends (K.taken sink.old) (K.taken sink.new) text }
@@ -84,19 +88,21 @@ fn call<S: Source, K: Sink, D: Disk + Drop>(
     // The line of a fault of usage.
     ensures usage_line { exit_status result ≡ 1 → WritesLine (K.taken sink.old) (K.taken sink.new) (K.faults sink.old) (K.faults sink.new) usage_text }
 {
-    let done = hyder_call(alloc, words, source, sink, log, points);
+    let done = hyder_call(rt, alloc, words, source, sink, log, points, gate);
     exit_code(done.status)
 }
 
 fn main(rt: HostRuntime) -> ExitCode {
     match words_of(&rt) {
         Ok(words) => call(
+            &rt,
             rt.alloc(),
             &words,
             &mut StdSource::new(rt.stdin()),
             &mut StdSink::new(rt.stdout()),
             FileDisk::new(&rt, "hyder.log"),
             FileDisk::new(&rt, "hyder.points"),
+            &OpenGate,
         ),
         Err(_) => exit_code(Status::Memory),
     }

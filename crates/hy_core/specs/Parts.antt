@@ -1,0 +1,203 @@
+-- What the core keeps of a run, and how it stands for a state.
+use Rattle.std.specs.Prelude.{◌≡◌, ℕ, ◌+◌, ◌-◌, ◌%◌, ◌^◌, ◌<◌, ◌≤◌, List, [], ◌∷◌, ◌++◌, map, length, take, drop, Option, None, Some, Bool, ◌&&◌, not, nat_le, nat_lt, if◌then◌else◌, ⊤}
+use Rattle.std.specs.List.{AllByRecursion}
+use Rattle.hy_base.specs.declared.record.EntryKind.{EntryKind}
+use Rattle.hy_base.specs.declared.record.EntryKind.TheVariants.{Txn}
+use Rattle.hy_base.specs.declared.workload.Program.{Program}
+use Rattle.hy_base.specs.declared.workload.Client.{Client}
+use Rattle.hy_base.specs.declared.workload.Home.{Home}
+use Rattle.hy_base.specs.declared.workload.Session.{Session}
+use Rattle.hy_base.specs.declared.workload.Phase.TheVariants.{Idle, Begun}
+use Rattle.hy_base.specs.declared.workload.Event.{Event}
+use Rattle.hy_base.specs.Lists.{nth, change_nth}
+use Rattle.hy_base.specs.Log.{IsLawful}
+use Rattle.hy_base.specs.Script.{Workload}
+use Rattle.hy_rules.specs.Validation.{live}
+use Rattle.hy_rules.specs.Exec.{Effects, exec, intention}
+use Rattle.hy_rules.specs.Rolling.{Roll, rolled_upto, Stands}
+use Rattle.hy_rules.specs.Moves.{State, client_passes, is_begun, fresh_session, after}
+use Rattle.hy_rules.specs.Runs.{Ending, ByReading, ByEntryAt, ByFullLog, Ended, answers_on, setting_of, leaves_write, added, ended_by, is_done}
+use Rattle.hy_exec.specs.Running.{has_written}
+use Rattle.hy_core.specs.declared.running.Running.{Running}
+use Rattle.hy_core.specs.declared.parts.Parts.{Parts}
+use Rattle.hy_core.specs.declared.parts.Seat.{Seat}
+use Rattle.hy_core.specs.declared.parts.Answered.{Answered}
+use Rattle.hy_core.specs.declared.parts.End.{End}
+use Rattle.hy_core.specs.declared.parts.End.TheVariants.{Reading, EntryAt, FullLog}
+use Rattle.hy_core.specs.Course.{Course, IsReached}
+
+-- the lists that the core keeps
+pub record Holding : Type 0 where
+  pub log : List EntryKind
+  pub rollers : List Roll
+  pub seats : List Seat
+  pub told : List Answered
+
+abbrev pub held : Parts → Holding
+held p = record { log = p.log.items; rollers = p.rollers.items; seats = p.seats.items; told = p.told.items }
+
+abbrev pub state_of : Holding → State
+state_of h = record { log = h.log; boards = map rolled_upto h.rollers; sessions = map (λ x. x.session) h.seats; armed = None }
+
+abbrev pub ending_of : End → Ending
+ending_of Reading = ByReading
+ending_of (EntryAt pos) = ByEntryAt pos
+ending_of FullLog = ByFullLog
+
+abbrev pub ended_of : Answered → Ended
+ended_of t = record { client = t.client; number = t.number; snap = t.snap; ending = ending_of t.end }
+
+abbrev pub done_of : Holding → List Ended
+done_of h = map ended_of h.told
+
+abbrev pub course_of : Workload → Holding → Course
+course_of script h = record { script = script; state = state_of h; ended = done_of h }
+
+-- the entry of a program that wrote
+abbrev pub entry_left : ℕ → ℕ → ℕ → Effects → Option EntryKind
+entry_left server client snap effects = if has_written effects then Some (Txn (intention server client snap effects)) else None
+
+-- a begun client keeps what its program was answered and what it leaves
+pub record IsRunning (script : Workload) (log : List EntryKind) (number : ℕ) (c : Client) (next snap : ℕ) (running : Option Running) : Type 0 where
+  pub left : next ≤ length c.programs
+  pub within : snap ≤ length log
+  pub whole : snap % script.shape.group ≡ 0
+  pub program : Program
+  pub is_program : nth c.programs next ≡ Some program
+  pub run : Running
+  pub has : running ≡ Some run
+  pub answers : run.answers ≡ (exec program (live script.shape log snap)).0
+  pub leaves : run.entry ≡ entry_left c.server number snap (exec program (live script.shape log snap)).1
+
+-- a client's seat: its next program, and what it keeps where it is begun
+pub record IsSeat (script : Workload) (log : List EntryKind) (number : ℕ) (c : Client) (x : Seat) : Type 0 where
+  pub first : 1 ≤ x.session.next
+  pub most : x.session.next ≤ length c.programs + 1
+  pub begun : (snap : ℕ) → x.session.phase ≡ Begun snap → IsRunning script log number c x.session.next snap x.running
+
+abbrev pub fresh_seat : Seat
+fresh_seat = record { session = fresh_session; running = None }
+
+-- the seats of clients, the first of which has this number
+abbrev pub AreSeats : Workload → List EntryKind → ℕ → List Client → List Seat → Type 0
+AreSeats script log number [] [] = ⊤
+AreSeats script log number [] (x ∷ xs) = ⊥
+AreSeats script log number (c ∷ cs) [] = ⊥
+AreSeats script log number (c ∷ cs) (x ∷ xs) = IsSeat script log number c x × AreSeats script log (number + 1) cs xs
+
+-- a server's board: a roller that stands for the log up to there
+pub record IsBoard (script : Workload) (log : List EntryKind) (r : Roll) : Type 0 where
+  pub shape : r.shape ≡ script.shape
+  pub from_first : r.from ≡ 0
+  pub within : rolled_upto r ≤ length log
+  pub stands : Stands (take (rolled_upto r) log) r
+
+-- a program that ended, with the answers that it was given
+pub record IsAnswered (script : Workload) (log : List EntryKind) (t : Answered) : Type 0 where
+  pub within : t.snap ≤ length log
+  pub answers : t.answers ≡ answers_on script log (ended_of t)
+
+pub record IsHolding (script : Workload) (h : Holding) : Type 0 where
+  pub lawful : IsLawful script.shape h.log
+  pub servers : length h.rollers ≡ script.servers
+  pub boards : AllByRecursion (IsBoard script h.log) h.rollers
+  pub seats : AreSeats script h.log 1 script.clients h.seats
+  pub told : AllByRecursion (IsAnswered script h.log) h.told
+
+-- and a run has led there
+pub record IsCore (script : Workload) (h : Holding) : Type 0 where
+  pub holding : IsHolding script h
+  pub reached : IsReached (course_of script h)
+
+-- one event further
+pub record Steps (script : Workload) (old new : Holding) (event : Event) : Type 0 where
+  pub holding : IsHolding script new
+  pub leads : state_of new ≡ after (setting_of script) (state_of old) event (added script (state_of old) event)
+  pub ends : done_of new ≡ done_of old ++ ended_by (state_of old) event
+
+-- whether a client's program is begun, and then whether it wrote
+abbrev pub begun_wrote : Workload → State → ℕ → Option Bool
+begun_wrote script s client = if client_passes (setting_of script) s client (λ home session. is_begun session.phase) then Some (leaves_write script s client) else None
+
+-- an idle client with a program left, whose last entry is published
+abbrev pub is_ready : Session → ℕ → ℕ → Bool
+is_ready session programs board = not (is_begun session.phase) && (nat_le session.next programs && nat_le session.last board)
+
+-- a client's seat once the program of this number has ended
+abbrev pub departed : ℕ → ℕ → Seat
+departed number last = record { session = record { next = number + 1; phase = Idle; last = last }; running = None }
+
+-- a client's seat, begun at a snapshot
+pub record BegunSeat (h : Holding) (client snap : ℕ) (x : Seat) (run : Running) : Type 0 where
+  pub is : nth h.seats client ≡ Some x
+  pub phase : x.session.phase ≡ Begun snap
+  pub running : x.running ≡ Some run
+
+-- the client is begun
+abbrev pub IsBegunAt : Holding → ℕ → Type 0
+IsBegunAt h client = (snap : ℕ) × (x : Seat) × (run : Running) × BegunSeat h client snap x run
+
+-- the number after the client's next program is one of 32 bits
+abbrev pub NextFits : Holding → ℕ → Type 0
+NextFits h client = (x : Seat) → nth h.seats client ≡ Some x → x.session.next + 1 < 2 ^ 32
+
+-- what the client's program leaves is an entry
+abbrev pub LeavesEntry : Holding → ℕ → Type 0
+LeavesEntry h client = (x : Seat) (run : Running) → nth h.seats client ≡ Some x → x.running ≡ Some run → (e : EntryKind) × (run.entry ≡ Some e)
+
+-- what is told of a begun program that ends so
+abbrev pub told_of : ℕ → ℕ → Seat → Running → End → Answered
+told_of client snap x run end = record { client = client; number = x.session.next; snap = snap; end = end; answers = run.answers }
+
+-- a begun client's program ends: it is told, and the client's seat is at the next program
+abbrev pub finishing : Holding → ℕ → ℕ → Seat → Running → End → Holding
+finishing h client snap x run end = record h {
+  seats = change_nth (λ _. departed x.session.next x.session.last) h.seats client;
+  told = h.told ++ told_of client snap x run end ∷ [];
+}
+
+abbrev pub Finishes : Holding → Holding → ℕ → End → Type 0
+Finishes old new client end = (snap : ℕ) (x : Seat) (run : Running) → BegunSeat old client snap x run → new ≡ finishing old client snap x run end
+
+-- and its entry is appended
+abbrev pub appending : Holding → ℕ → ℕ → ℕ → Seat → Running → EntryKind → Holding
+appending h client pos snap x run e = record h {
+  log = h.log ++ e ∷ [];
+  seats = change_nth (λ _. departed x.session.next pos) h.seats client;
+  told = h.told ++ told_of client snap x run (EntryAt pos) ∷ [];
+}
+
+abbrev pub Appends : Holding → Holding → ℕ → ℕ → Type 0
+Appends old new client pos = (snap : ℕ) (x : Seat) (run : Running) (e : EntryKind) → BegunSeat old client snap x run → run.entry ≡ Some e → new ≡ appending old client pos snap x run e
+
+abbrev pub home_of : Client → Home
+home_of c = record { server = c.server; programs = length c.programs }
+
+-- the first of these clients, the first of which has this number, that is begun or has a program left
+abbrev pub first_unfinished : ℕ → List Client → List Seat → Option (ℕ × (Home × Session))
+first_unfinished number [] xs = None
+first_unfinished number (c ∷ cs) [] = None
+first_unfinished number (c ∷ cs) (x ∷ xs) = if not (is_done (home_of c) x.session) then Some (number, (home_of c, x.session)) else first_unfinished (number + 1) cs xs
+
+-- the client with this number is the first
+pub record IsUnfinished (clients : List Client) (seats : List Seat) (number : ℕ) : Type 0 where
+  pub own : Client
+  pub is_own : nth clients number ≡ Some own
+  pub seat : Seat
+  pub is_seat : nth seats number ≡ Some seat
+  pub first : first_unfinished 1 clients seats ≡ Some (number, (home_of own, seat.session))
+
+-- and this is its session, and its server
+pub record IsUnfinishedAt (clients : List Client) (seats : List Seat) (number : ℕ) (session : Session) (server : ℕ) : Type 0 where
+  pub is : IsUnfinished clients seats number
+  pub session_is : is.seat.session ≡ session
+  pub server_is : is.own.server ≡ server
+
+-- the first of these servers, the first of which has this number, whose board is below the log's length
+abbrev pub first_behind : ℕ → ℕ → List Roll → Option ℕ
+first_behind number len [] = None
+first_behind number len (r ∷ rs) = if nat_lt (rolled_upto r) len then Some number else first_behind (number + 1) len rs
+
+-- the entries past a position, up to another
+abbrev pub entries_between : List EntryKind → ℕ → ℕ → List EntryKind
+entries_between log from upto = take (upto - from) (drop from log)

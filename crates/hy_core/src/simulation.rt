@@ -1,0 +1,216 @@
+//! The core.
+ghost use Rattle.std.specs.Prelude.{◌≡◌, ◌↔◌, ℕ, true, None, Err, IfOk, IfSome, OnOk, OnErr, IsErrOf};
+ghost use Rattle.std.specs.List.{AllByRecursion};
+ghost use Rattle.hy_base.specs.Shape.{IsWithin};
+ghost use Rattle.hy_rules.specs.Moves.{board_of, is_declared};
+ghost use Rattle.hy_rules.specs.Validation.{rows};
+ghost use Rattle.hy_rules.specs.Runs.{setting_of, step, next_event, is_finished, results_at};
+ghost use Rattle.hy_core.specs.Course.{Course, IsCalm, IsReached, Advances, Follows, FollowsSome, IsRefusedAt, Extends, Completes, opened};
+
+use crate::moves::perform;
+use crate::parts::{Parts, board_at, may_happen, open, roller_of};
+use crate::replies::all_replies;
+use crate::tail::next_event;
+use hy_base::{Entry, Event, Items, Pos, Replies, Script, Shared};
+use hy_pipe::Gate;
+use hy_tree::Tree;
+use std::alloc::{AllocError, Global};
+use std::marker::Model;
+use std::thread::Threads;
+use thiserror::Error;
+
+/// A simulated run of a script over one log, which is empty at first.
+#[derive(Drop)]
+pub struct Core {
+    script: Script,
+    parts: Parts,
+}
+
+impl Model for Core {
+    ghost use Rattle.hy_core.specs.Course.{Course};
+    ghost use Rattle.hy_core.specs.Parts.{IsCore, course_of, held};
+
+    ghost Value = { Course };
+
+    ghost view = { λ c. course_of c.script (held c.parts) };
+
+    ghost invariant = { λ c. IsCore c.script (held c.parts) };
+}
+
+/// Why an event didn't happen. The core is as before.
+#[derive(Clone, Copy, Debug, PartialEq, Eq, Error)]
+pub enum StepError {
+    /// It may not happen in this state.
+    #[error("the event may not happen")]
+    NotEnabled,
+    #[error("out of memory")]
+    Memory,
+}
+
+/// Why not all of some events happened.
+#[derive(Clone, Copy, Debug, PartialEq, Eq, Error)]
+pub enum RunError {
+    /// The event at this place, from 0, may not happen in its turn. Those before it have happened.
+    #[error("event {index} may not happen")]
+    NotEnabled { index: usize },
+    /// Some of the first events have happened.
+    #[error("out of memory")]
+    Memory,
+}
+
+impl From<AllocError> for StepError {
+    ghost use Rattle.std.specs.Prelude.{◌≡◌};
+    ghost use Rattle.hy_core.specs.declared.simulation.StepError.TheVariants.{Memory};
+
+    ghost from_gives = { λ _ e. e ≡ Memory };
+
+    fn from(_error: AllocError) -> StepError {
+        StepError::Memory
+    }
+}
+
+impl Core {
+    /// The state in which a run of the script opens. `AllocError` where memory is wanting.
+    pub fn new(alloc: Global, script: Script) -> Result<Core, AllocError>
+        ensures { IfOk result (λ core. core ≡ opened script) }
+    {
+        let _shape = script.shape();
+        let parts = open(alloc, &script)?;
+        Ok(Core { script, parts })
+    }
+
+    /// The script, lent. What the core tells is what some events of it have led to.
+    pub fn script(&self) -> &Script
+        ensures script { result.now ≡ self.now.script }
+        ensures reached { IsReached self.now }
+    {
+        &self.script
+    }
+
+    /// Moves by an event, which orders no stop. A roll of the log takes up to 16 threads, and enters the gate once for each group.
+    ///
+    /// `NotEnabled` exactly where the event may not happen, `Memory` where memory is wanting. Then the core is as before.
+    pub fn step<R: Threads + Sync, G: Gate + Sync>(
+        &mut self,
+        rt: &R,
+        alloc: Global,
+        event: Event,
+        threads: usize,
+        gate: &G,
+    ) -> Result<(), StepError>
+        requires calm { IsCalm event }
+        requires threads { IsWithin 1 16 threads }
+        ensures ok { OnOk result (Advances self.old event self.new) }
+        ensures refused { result ≡ Err StepError.NotEnabled ↔ step self.old.script self.old.state event ≡ None }
+        ensures err { OnErr result (self.new ≡ self.old) }
+    {
+        if !may_happen(&self.script, &self.parts, event) {
+            return Err(StepError::NotEnabled);
+        }
+        perform(
+            rt,
+            alloc,
+            &self.script,
+            &mut self.parts,
+            event,
+            threads,
+            gate,
+        )?;
+        Ok(())
+    }
+
+    /// The event that the tail rule gives, if any. It takes no memory, and is never a stop.
+    pub fn next(&self) -> Option<Event>
+        ensures next { result ≡ next_event self.now.script self.now.state }
+        ensures reached { IsReached self.now }
+        ensures calm { IfSome result IsCalm }
+    {
+        next_event(&self.script, &self.parts)
+    }
+
+    /// Moves by events in turn.
+    ///
+    /// `NotEnabled` names the first event that may not happen in its turn, and those before it have happened.
+    /// `Memory`: memory was wanting, and some of the first events have happened.
+    pub fn run<R: Threads + Sync, G: Gate + Sync>(
+        &mut self,
+        rt: &R,
+        alloc: Global,
+        events: &[Event],
+        threads: usize,
+        gate: &G,
+    ) -> Result<(), RunError>
+        requires calm { AllByRecursion IsCalm events.now }
+        requires threads { IsWithin 1 16 threads }
+        ensures ok { OnOk result (Follows self.old events.now self.new) }
+        ensures refused { (index : ℕ) → IsErrOf result (RunError.NotEnabled index) → IsRefusedAt self.old events.now self.new index }
+        ensures memory { IsErrOf result RunError.Memory → FollowsSome self.old events.now self.new }
+    {
+        for at in 0..events.len() {
+            match self.step(rt, alloc, events[at], threads, gate) {
+                Ok(()) => {}
+                Err(StepError::NotEnabled) => return Err(RunError::NotEnabled { index: at }),
+                Err(StepError::Memory) => return Err(RunError::Memory),
+            }
+        }
+        Ok(())
+    }
+
+    /// Moves by the tail rule up to its end, and adds its events to a list. Then the run is finished.
+    ///
+    /// `AllocError`: memory was wanting. The core has moved by the events that were added.
+    pub fn finish<R: Threads + Sync, G: Gate + Sync>(
+        &mut self,
+        rt: &R,
+        alloc: Global,
+        events: &mut Vec<Event>,
+        threads: usize,
+        gate: &G,
+    ) -> Result<(), AllocError>
+        requires threads { IsWithin 1 16 threads }
+        ensures ok { OnOk result (Completes self.old events.old.items events.new.items self.new) }
+        ensures err { OnErr result (Extends self.old events.old.items events.new.items self.new) }
+    {
+        while let Some(event) = self.next() {
+            events.reserve(1)?;
+            match self.step(rt, alloc, event, threads, gate) {
+                Ok(()) => events.push_reserved(event),
+                Err(StepError::NotEnabled) => unreachable!(),
+                Err(StepError::Memory) => return Err(AllocError),
+            }
+        }
+        Ok(())
+    }
+
+    /// The replies to all programs of all clients. `AllocError` where memory is wanting.
+    pub fn outcomes(&self, alloc: Global) -> Result<Items<Replies>, AllocError>
+        requires finished { is_finished self.now.script self.now.state ≡ true }
+        ensures { IfOk result (λ replies. replies ≡ (results_at self.now.script self.now.ended self.now.state).replies) }
+    {
+        let clients = self.script.clients();
+        let Some(roller) = roller_of(&self.parts.rollers, 1) else {
+            unreachable!();
+        };
+        all_replies(alloc, roller, &self.parts.told, clients)
+    }
+
+    /// The log, lent. Positions count from 1.
+    pub fn entries(&self) -> &[Shared<Entry>]
+        ensures { result.now ≡ self.now.state.log }
+    {
+        self.parts.log.as_slice()
+    }
+
+    /// The position up to which a server has published, and the rows there, lent.
+    pub fn board(&self, server: u8) -> (Pos, &Tree)
+        requires declared { is_declared (setting_of self.now.script) server ≡ true }
+        ensures at { result.0 ≡ board_of self.now.state server }
+        ensures rows { result.1.now ≡ rows self.now.script.shape self.now.state.log (board_of self.now.state server) }
+    {
+        let _shape = self.script.shape();
+        let Some(roller) = roller_of(&self.parts.rollers, server) else {
+            unreachable!();
+        };
+        (roller.at(), roller.tree())
+    }
+}

@@ -1,0 +1,2 @@
+pub use Rattle.hy_script.specs.Reading
+pub mod Source

@@ -1,0 +1,4 @@
+pub mod Admitting
+pub mod Flat
+pub mod Rolls
+pub mod Standing

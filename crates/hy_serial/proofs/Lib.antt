@@ -1,0 +1,12 @@
+pub mod Pairs
+pub mod ScanLemmas
+pub mod Agreement
+pub mod Maps
+pub mod Histories
+pub mod Snapshots
+pub mod Programs
+pub mod Told
+pub mod Appends
+pub mod RunTold
+pub mod Serializable
+pub mod Worked

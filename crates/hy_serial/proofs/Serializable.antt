@@ -1,0 +1,260 @@
+-- A finished run is serializable: in its turn each committed program finds what it read on its snapshot.
+use Rattle.std.proofs.Common.{◌≡◌, ◌∙◌, ℕ, zero, suc, ◌+◌, ◌/◌, ◌%◌, ◌<◌, ◌≤◌, Bool, true, false, cond, List, [], ◌∷◌, length, map, refl, sym, ap, subst, arith}
+use mathlib.Core.Bool.{true≢false}
+use Rattle.std.proofs.lemmas.Bool.{and_parts, or_left, or_right, eqb-true, eq-eqb, lt-ltb, ltb-true}
+use Rattle.std.proofs.Math.Nat.{mul-div-le}
+use Rattle.std.specs.Prelude.{IsTrue, Option, Some, None, ◌==◌, nat_lt, is_some, option_map, option_and_then, slice_get, if◌then◌else◌}
+use Rattle.std.specs.Option.{option_map_or}
+use Rattle.std.specs.List.{AllByRecursion, list_any}
+use Rattle.hy_base.specs.declared.record.EntryKind.{EntryKind}
+use Rattle.hy_base.specs.declared.record.EntryKind.TheVariants.{Filler, Txn}
+use Rattle.hy_base.specs.declared.record.Intention.{Intention}
+use Rattle.hy_base.specs.declared.record.Span.{Span}
+use Rattle.hy_base.specs.declared.record.Verdict.{Verdict}
+use Rattle.hy_base.specs.declared.record.Verdict.TheVariants.{Commit, Pre, Mate, Final}
+use Rattle.hy_base.specs.declared.report.Answer.{Answer}
+use Rattle.hy_base.specs.declared.report.Pair.{Pair}
+use Rattle.hy_base.specs.declared.workload.Event.{Event}
+use Rattle.hy_base.specs.declared.workload.Program.{Program}
+use Rattle.hy_base.specs.Entry.{is_in_span, is_rising, touches}
+use Rattle.hy_base.specs.Script.{Workload}
+use Rattle.hy_rules.specs.Exec.{Effects, no_effects, pair_before, after_writes, exec, intention}
+use Rattle.hy_rules.specs.History.{is_commit, committed_at, writes_at, history}
+use Rattle.hy_rules.specs.Laws.{SeesAllBefore, AreSerial}
+use Rattle.hy_rules.specs.Moves.{State}
+use Rattle.hy_rules.specs.Runs.{opening_of, program_of, Ending, ByReading, ByEntryAt, ByFullLog, ByStop, Ended, ended_in, answers_on, answers_to, verdict_at}
+use Rattle.hy_rules.specs.Validation.{verdicts, live}
+use Rattle.hy_rules.proofs.Serial.{commits_are_serial}
+use Rattle.hy_rules.proofs.Whole.{finished_log_is_whole}
+use Rattle.hy_serial.specs.Serial.{SerialRun, serial_run, is_entry_at, rerun, recorded, serial_writes, serial_map, serial_answers}
+use Rattle.hy_serial.specs.Laws.{CommitsSerially, ReadsSerially, IsSerializable, CommittedRunsSerially, OnlyTouchedKeysCount}
+use Rattle.hy_serial.proofs.Pairs.{AllPairs-map, PairsRise, kept}
+use Rattle.hy_serial.proofs.Agreement.{Covers, same_all}
+use Rattle.hy_serial.proofs.Maps.{write_of, writes_of_rows}
+use Rattle.hy_serial.proofs.Histories.{first_map, first_map_rises, next_map, live_is_first, all_judged, serial_at, same_as_snapshot}
+use Rattle.hy_serial.proofs.Snapshots.{all_from}
+use Rattle.hy_serial.proofs.Told.{IsOwn, EntryTold, ReadTold, EndingTold, Told, appended_at, within_log}
+use Rattle.hy_serial.proofs.RunTold.{run_told}
+
+-- ---- an intention touches what was read
+
+points_among : (xs ys : List ℕ) → ((key : ℕ) → list_any (λ p. p == key) ys ≡ true → list_any (λ p. p == key) xs ≡ true) → AllByRecursion (λ key. list_any (λ p. p == key) xs ≡ true) ys
+points_among xs [] h = tt
+points_among xs (y ∷ ys) h = (h y (or_left (y == y) _ (eq-eqb y y refl)), points_among xs ys (λ key k. h key (or_right (y == key) _ k)))
+
+spans_among : (xs ys : List Span) → ((key : ℕ) → list_any (is_in_span key) ys ≡ true → list_any (is_in_span key) xs ≡ true)
+    → AllByRecursion (λ s. (key : ℕ) → is_in_span key s ≡ true → list_any (is_in_span key) xs ≡ true) ys
+spans_among xs [] h = tt
+spans_among xs (y ∷ ys) h = ((λ key k. h key (or_left (is_in_span key y) _ k)), spans_among xs ys (λ key k. h key (or_right (is_in_span key y) _ k)))
+
+covered : (server client snap : ℕ) (e : Effects) → Covers (touches (intention server client snap e)) e
+covered server client snap e =
+    let q : ℕ → Bool = touches (intention server client snap e) in
+    record {
+      points = all_from (λ key. list_any (λ p. p == key) e.points ≡ true) (λ key. q key ≡ true) (λ key h. or_left (list_any (λ p. p == key) e.points) _ h) e.points (points_among e.points e.points (λ key h. h));
+      spans = all_from (λ s. (key : ℕ) → is_in_span key s ≡ true → list_any (is_in_span key) e.spans ≡ true) (λ s. (key : ℕ) → is_in_span key s ≡ true → q key ≡ true)
+          (λ s h key k. or_right (list_any (λ p. p == key) e.points) _ (or_left (list_any (is_in_span key) e.spans) _ (h key k))) e.spans (spans_among e.spans e.spans (λ key h. h));
+    }
+
+rises_of : (ps : List Pair) → IsTrue (is_rising pair_before ps) → PairsRise ps
+rises_of [] h = tt
+rises_of (p ∷ []) h = (tt, tt)
+rises_of (p ∷ q ∷ ps) h =
+    let parts = and_parts (pair_before p q) _ h in
+    let lt : p.key < q.key = ltb-true p.key q.key parts.0 in
+    let rest : PairsRise (q ∷ ps) = rises_of (q ∷ ps) parts.1 in
+    ((lt, AllPairs-map (λ s. q.key < s.key) (λ s. p.key < s.key) (λ s k. omega (arith, k, lt)) ps rest.0), rest)
+
+pub only_touched_keys_count : OnlyTouchedKeysCount
+only_touched_keys_count program server client snap pairs others a b same =
+    let left : Effects = (exec program pairs).1 in
+    same_all (touches (intention server client snap left)) pairs others (rises_of pairs a) (rises_of others b) same no_effects program.commands (covered server client snap left)
+
+-- ---- verdicts
+
+commit_of : (vs : List (Option Verdict)) (n : ℕ) → verdict_at vs (suc n) ≡ Some Commit → slice_get vs n ≡ Some (Some Commit)
+commit_of vs n h = go (slice_get vs n) h
+  where
+    go : (o : Option (Option Verdict)) → option_and_then (λ v. v) o ≡ Some Commit → o ≡ Some (Some Commit)
+    go None e = absurd (cc)
+    go (Some v) e = ap (λ u. Some u) e
+
+only_commit : (v : Option Verdict) → is_commit v ≡ true → v ≡ Some Commit
+only_commit None h = absurd (true≢false (sym h))
+only_commit (Some Commit) h = refl
+only_commit (Some (Pre c)) h = absurd (true≢false (sym h))
+only_commit (Some (Mate c)) h = absurd (true≢false (sym h))
+only_commit (Some (Final c)) h = absurd (true≢false (sym h))
+
+-- ---- answers
+
+answers_by_entry : (script : Workload) (log : List EntryKind) (e : Ended) (pos : ℕ) → e.ending ≡ ByEntryAt pos → answers_to script log e ≡ answers_on script log e
+answers_by_entry script log e pos is = rw is refl
+
+answers_by_reading : (script : Workload) (log : List EntryKind) (e : Ended) → e.ending ≡ ByReading → answers_to script log e ≡ answers_on script log e
+answers_by_reading script log e is = rw is refl
+
+-- ---- a run
+
+module _ (script : Workload) (before : List EntryKind) (events : List Event) (t : State) (some : 1 ≤ script.shape.group) (whole : length t.log % script.shape.group ≡ 0)
+    (told : Told script t.log (length before) (ended_in script (opening_of script before) events)) where
+  abbrev log : List EntryKind
+  log = t.log
+
+  abbrev done : List Ended
+  done = ended_in script (opening_of script before) events
+
+  abbrev vs : List (Option Verdict)
+  vs = verdicts script.shape t.log (length t.log)
+
+  abbrev r : SerialRun
+  r = serial_run script before events t
+
+  abbrev map_at : ℕ → List Pair
+  map_at n = first_map t.log vs n
+
+  judged : length vs ≡ length log
+  judged = all_judged script.shape t.log whole
+
+  serial : AreSerial (history log vs) 1 log vs
+  serial = commits_are_serial script.shape t.log (length t.log / script.shape.group) (mul-div-le (length t.log) script.shape.group)
+
+  snapshot : (snap : ℕ) → snap % script.shape.group ≡ 0 → snap ≤ length log → map_at snap ≡ live script.shape log snap
+  snapshot snap w within = live_is_first script.shape t.log snap some whole w within
+
+  -- a committed program, right before its entry, does what it did on its snapshot
+  in_turn : (n : ℕ) (e : Ended) (own : IsOwn script log e (suc n)) → slice_get vs n ≡ Some (Some Commit) → exec own.program (map_at n) ≡ exec own.program (live script.shape log e.snap)
+  in_turn n e own commit =
+      let found : List Pair = live script.shape log e.snap in
+      let left : Effects = (exec own.program found).1 in
+      let i : Intention = intention own.server e.client e.snap left in
+      let place : suc n ≤ length log = within_log log (suc n) (Txn i) own.entry in
+      let at : 1 + n ≡ suc n = omega arith in
+      let sees : SeesAllBefore (history log vs) (suc n) i = subst (λ pos. SeesAllBefore (history log vs) pos i) at (serial_at (history log vs) 1 n log vs (Txn i) (Some Commit) serial own.entry commit) in
+      let same : kept (touches i) (map_at e.snap) ≡ kept (touches i) (map_at n) = same_as_snapshot log vs n i (omega (arith, judged)) (omega (arith, judged, place)) (omega (arith, own.below)) sees in
+      let there : map_at e.snap ≡ found = snapshot e.snap own.whole (omega (arith, own.below, place)) in
+      let rises : PairsRise found = subst PairsRise there (first_map_rises log vs e.snap) in
+      same_all (touches i) found (map_at n) rises (first_map_rises log vs n) (ap (kept (touches i)) (sym there) ∙ same) no_effects own.program.commands (covered own.server e.client e.snap left)
+
+  -- ---- who appended an entry
+
+  found_one_case : (pos : ℕ) (d x : Ended) (xs : List Ended) (b : Bool) → is_entry_at pos x.ending ≡ b → cond b (Some x) (appended_at pos xs) ≡ Some d → EndingTold script log (length before) done x x.ending
+      → (appended_at pos xs ≡ Some d → EndingTold script log (length before) done d d.ending × (is_entry_at pos d.ending ≡ true)) → EndingTold script log (length before) done d d.ending × (is_entry_at pos d.ending ≡ true)
+  found_one_case pos d x xs true e h own rest =
+      let same : x ≡ d = cc in subst (λ y. EndingTold script log (length before) done y y.ending × (is_entry_at pos y.ending ≡ true)) same (own, e)
+  found_one_case pos d x xs false e h own rest = rest h
+
+  found_one : (pos : ℕ) (d : Ended) (xs : List Ended) → AllByRecursion (λ e. EndingTold script log (length before) done e e.ending) xs → appended_at pos xs ≡ Some d
+      → EndingTold script log (length before) done d d.ending × (is_entry_at pos d.ending ≡ true)
+  found_one pos d [] all h = absurd (cc)
+  found_one pos d (x ∷ xs) all h = found_one_case pos d x xs (is_entry_at pos x.ending) refl h all.0 (found_one pos d xs all.1)
+
+  own_of : (pos : ℕ) (d : Ended) (ending : Ending) → EndingTold script log (length before) done d ending → is_entry_at pos ending ≡ true → IsOwn script log d pos
+  own_of pos d ByReading h e = absurd (true≢false (sym e))
+  own_of pos d (ByEntryAt at) h e = let same : at ≡ pos = eqb-true at pos e in subst (IsOwn script log d) same h.own
+  own_of pos d ByFullLog h e = absurd (true≢false (sym e))
+  own_of pos d ByStop h e = absurd (true≢false (sym e))
+
+  owner : (pos : ℕ) (d : Ended) → appended_at pos done ≡ Some d → IsOwn script log d pos
+  owner pos d h = let f = found_one pos d done told.each h in own_of pos d d.ending f.0 f.1
+
+  -- the program that appended an entry, run on a map
+  rerun_is : (pos : ℕ) (d : Ended) (p : Program) (pairs : List Pair) → appended_at pos done ≡ Some d → program_of script d.client d.number ≡ Some p → rerun r pos pairs ≡ Some (exec p pairs)
+  rerun_is pos d p pairs h is = rw (h, is) refl
+
+  rerun_none : (pos : ℕ) (pairs : List Pair) → appended_at pos done ≡ None → rerun r pos pairs ≡ None
+  rerun_none pos pairs h = rw h refl
+
+  -- ---- the writes of a position
+
+  owned_writes : (n : ℕ) (i : Intention) (d : Ended) → slice_get log n ≡ Some (Txn i) → slice_get vs n ≡ Some (Some Commit) → appended_at (suc n) done ≡ Some d
+      → option_map_or (λ ran. ran.1.writes) (rerun r (suc n) (map_at n)) [] ≡ i.writes
+  owned_writes n i d at commit h =
+      let own : IsOwn script log d (suc n) = owner (suc n) d h in
+      let left : Effects = (exec own.program (live script.shape log d.snap)).1 in
+      let same : Some (Txn (intention own.server d.client d.snap left)) ≡ Some (Txn i) = sym own.entry ∙ at in
+      ap (λ (o : Option (List Answer × Effects)). option_map_or (λ ran. ran.1.writes) o []) (rerun_is (suc n) d own.program (map_at n) h own.is)
+      ∙ (ap (λ (ran : List Answer × Effects). ran.1.writes) (in_turn n d own commit) ∙ ap (λ o. option_map_or recorded o []) same)
+
+  program_writes : (n : ℕ) (e : EntryKind) (o : Option Ended) → length before < suc n → slice_get log n ≡ Some e → slice_get vs n ≡ Some (Some Commit) → appended_at (suc n) done ≡ o
+      → option_map_or (λ ran. ran.1.writes) (rerun r (suc n) (map_at n)) [] ≡ recorded e
+  program_writes n (Filler server) None past at commit h = ap (λ (o : Option (List Answer × Effects)). option_map_or (λ ran. ran.1.writes) o []) (rerun_none (suc n) (map_at n) h)
+  program_writes n (Filler server) (Some d) past at commit h = let own : IsOwn script log d (suc n) = owner (suc n) d h in let same : Some (Filler server) ≡ Some (Txn _) = sym at ∙ own.entry in absurd (cc)
+  program_writes n (Txn i) None past at commit h = absurd (true≢false (sym (ap is_some (sym h) ∙ told.all (suc n) i past at)))
+  program_writes n (Txn i) (Some d) past at commit h = owned_writes n i d at commit h
+
+  recorded_writes : (pos : ℕ) (e : EntryKind) → recorded e ≡ map write_of (writes_at pos e)
+  recorded_writes pos (Filler server) = refl
+  recorded_writes pos (Txn i) = sym (writes_of_rows pos i.writes)
+
+  writes_case : (n : ℕ) (e : EntryKind) (v : Option Verdict) (b c : Bool) → slice_get log n ≡ Some e → slice_get vs n ≡ Some v → is_commit v ≡ b → nat_lt (length before) (suc n) ≡ c
+      → (if b then if c then option_map_or (λ ran. ran.1.writes) (rerun r (suc n) (map_at n)) [] else option_map_or recorded (slice_get log n) [] else []) ≡ map write_of (committed_at (suc n) e b)
+  writes_case n e v false c at verdict commit past = refl
+  writes_case n e v true false at verdict commit past = ap (λ o. option_map_or recorded o []) at ∙ recorded_writes (suc n) e
+  writes_case n e v true true at verdict commit past =
+      program_writes n e (appended_at (suc n) done) (ltb-true (length before) (suc n) past) at (verdict ∙ ap (λ u. Some u) (only_commit v commit)) refl ∙ recorded_writes (suc n) e
+
+  step_writes : (n : ℕ) (e : EntryKind) (v : Option Verdict) → slice_get log n ≡ Some e → slice_get vs n ≡ Some v → serial_writes r (suc n) (map_at n) ≡ map write_of (committed_at (suc n) e (is_commit v))
+  step_writes n e v at verdict = rw verdict (writes_case n e v (is_commit v) (nat_lt (length before) (suc n)) at verdict refl refl)
+
+  -- ---- the map
+
+  item : {X : Type 0} (xs : List X) (n : ℕ) → n < length xs → (x : X) × (slice_get xs n ≡ Some x)
+  item [] n lt = absurd (omega (arith, lt))
+  item (x ∷ xs) zero lt = (x, refl)
+  item (x ∷ xs) (suc n) lt = item xs n (omega (arith, lt))
+
+  -- after each position the serial execution holds what the committed entries recorded
+  maps : (n : ℕ) → n ≤ length log → serial_map r n ≡ map_at n
+  maps zero le = refl
+  maps (suc n) le =
+      let e = item log n (omega (arith, le)) in
+      let v = item vs n (omega (arith, le, judged)) in
+      ap (λ (pairs : List Pair). after_writes pairs (serial_writes r (suc n) pairs)) (maps n (omega (arith, le)))
+      ∙ (ap (after_writes (map_at n)) (step_writes n e.0 v.0 e.1 v.1) ∙ sym (next_map log vs n e.0 v.0 e.1 v.1))
+
+  groups : (pos : ℕ) → pos % script.shape.group ≡ 0 → pos ≤ length log → serial_map r pos ≡ live script.shape log pos
+  groups pos w within = maps pos within ∙ snapshot pos w within
+
+  -- ---- the answers
+
+  on_program : (e : Ended) (p : Program) → program_of script e.client e.number ≡ Some p → answers_on script log e ≡ (exec p (live script.shape log e.snap)).0
+  on_program e p is = rw is refl
+
+  noted : (n : ℕ) (o : Option (List Answer × Effects)) → verdict_at vs (suc n) ≡ Some Commit → length before < suc n → rerun r (suc n) (serial_map r n) ≡ o → serial_answers r (suc n) ≡ option_map (λ ran. ran.0) o
+  noted n o commit past is = rw (commit, lt-ltb (length before) (suc n) past) (ap (option_map (λ ran. ran.0)) is)
+
+  committed_at_pos : (e : Ended) (pos : ℕ) → e.ending ≡ ByEntryAt pos → EntryTold script log (length before) done e pos → verdict_at vs pos ≡ Some Commit → serial_answers r pos ≡ Some (answers_to script log e)
+  committed_at_pos e zero is h commit = absurd (let late = h.late in omega (arith, late))
+  committed_at_pos e (suc n) is h commit =
+      let own : IsOwn script log e (suc n) = h.own in
+      let place : suc n ≤ length log = within_log log (suc n) _ own.entry in
+      let here : serial_map r n ≡ map_at n = maps n (omega (arith, place)) in
+      let ran : exec own.program (serial_map r n) ≡ exec own.program (live script.shape log e.snap) = ap (exec own.program) here ∙ in_turn n e own (commit_of vs n commit) in
+      noted n (Some (exec own.program (serial_map r n))) commit h.late (rerun_is (suc n) e own.program (serial_map r n) h.found own.is)
+      ∙ ap (λ answers. Some answers) (ap (λ (done : List Answer × Effects). done.0) ran ∙ sym (answers_by_entry script log e (suc n) is ∙ on_program e own.program own.is))
+
+  commits : (e : Ended) → EndingTold script log (length before) done e e.ending → CommitsSerially r e
+  commits e h pos is commit = committed_at_pos e pos is (subst (EndingTold script log (length before) done e) is h) commit
+
+  mapped : (o : Option Program) (a b : List Pair) → is_some o ≡ true → a ≡ b → option_map (λ p. (exec p a).0) o ≡ Some (option_map_or (λ done. done.0) (option_map (λ p. exec p b) o) [])
+  mapped None a b there same = absurd (true≢false (sym there))
+  mapped (Some p) a b there same = ap (λ pairs. Some (exec p pairs).0) same
+
+  readers : (e : Ended) → EndingTold script log (length before) done e e.ending → ReadsSerially r e
+  readers e h is =
+      let read : ReadTold script (length log) e = subst (EndingTold script log (length before) done e) is h in
+      mapped (program_of script e.client e.number) (serial_map r e.snap) (live script.shape log e.snap) read.program (groups e.snap read.snap.whole read.snap.within)
+      ∙ ap (λ answers. Some answers) (sym (answers_by_reading script log e is))
+
+  pub serializable : IsSerializable (serial_run script before events t)
+  serializable = record {
+    commits = all_from (λ e. EndingTold script log (length before) done e e.ending) (CommitsSerially r) commits done told.each;
+    readers = all_from (λ e. EndingTold script log (length before) done e e.ending) (ReadsSerially r) readers done told.each;
+    groups = groups;
+    rows = groups (length log) whole (omega arith);
+  }
+
+pub committed_runs_serially : CommittedRunsSerially
+committed_runs_serially script before events t is fits leads finished =
+    serializable script before events t is.shape.group.at_least (finished_log_is_whole script before events t is fits leads finished) (run_told script before events t leads)
