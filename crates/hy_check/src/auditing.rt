@@ -1,7 +1,9 @@
 //! The entries of a log, and what is decided of them.
-ghost use Rattle.std.specs.Prelude.{◌≡◌, ◌/◌, length, IsTrue, IfOk, IfErr, Ok};
+ghost use Rattle.std.specs.Prelude.{◌≡◌, ◌/◌, length, map, IsTrue, IfOk, IfErr, Ok};
+ghost use Rattle.std.specs.List.{AllByRecursion};
 ghost use Rattle.hy_base.specs.Log.{IsLawful};
-ghost use Rattle.hy_rules.specs.EntryFormat.{entries_past};
+ghost use Rattle.hy_rules.specs.EntryFormat.{entries_past, spelling};
+ghost use Rattle.hy_check.specs.Listing.{IsSound};
 ghost use Rattle.hy_check.specs.Auditing.{IsFoldOf, OnlyLooks, Refuses};
 
 use crate::listing::{Listing, list_entries};
@@ -39,6 +41,8 @@ fn zeros(alloc: Global) -> Result<Vec<u8>, AllocError>
 pub fn entries_of<D: Disk>(alloc: Global, log: &mut PageLog<D>) -> Result<Vec<Entry>, AuditError>
     ensures exact { IsTrue D.tells → IfOk result (λ entries. entries_past log.old.shape 0 log.old.bodies ≡ Ok entries.items) }
     ensures refused { IsTrue D.tells → IfErr result (λ error. Refuses error (entries_past log.old.shape 0 log.old.bodies)) }
+    ensures spelled { IsTrue D.tells → IfOk result (λ entries. log.old.bodies ≡ map spelling entries.items) }
+    ensures sound { IfOk result (λ entries. AllByRecursion IsSound entries.items) }
     ensures lawful { IfOk result (λ entries. IsLawful log.old.shape entries.items) }
     ensures count { IfOk result (λ entries. length entries.items ≡ length log.old.bodies) }
     ensures same { (log.new.shape ≡ log.old.shape) × (log.new.stopped ≡ log.old.stopped) × (log.new.spare ≡ log.old.spare) }

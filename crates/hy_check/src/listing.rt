@@ -2,10 +2,10 @@
 ghost use Rattle.std.specs.Prelude.{◌≡◌, ◌+◌, ◌≤◌, ℕ, List, length, IsTrue, IfOk, Some};
 ghost use Rattle.hy_base.specs.Lists.{nth};
 ghost use Rattle.hy_base.specs.Log.{HasLawfulSnap};
-ghost use Rattle.hy_rules.specs.EntryFormat.{decoded_at};
+ghost use Rattle.hy_rules.specs.EntryFormat.{decoded_at, spelling};
 ghost use Rattle.hy_codec.specs.Reading.{Decodes};
 ghost use Rattle.hy_log.specs.Looks.{IsLook};
-ghost use Rattle.hy_check.specs.Listing.{IsListing};
+ghost use Rattle.hy_check.specs.Listing.{IsListing, IsSound};
 
 use hy_base::{Entry, Failed, Pos};
 use hy_codec::{DecodeError, decode_at};
@@ -37,6 +37,8 @@ fn read_entry<D: Disk>(
     requires space { length buffer.old ≡ 18634 }
     ensures exact { IsTrue D.tells → IfOk result (λ read. (body : List ℕ) → nth log.old.bodies pos ≡ Some body → Decodes read (decoded_at log.old.shape pos body)) }
     ensures lawful { IfOk result (λ read. IfOk read (HasLawfulSnap log.old.shape pos)) }
+    ensures sound { IfOk result (λ read. IfOk read IsSound) }
+    ensures spelled { IsTrue D.tells → IfOk result (λ read. IfOk read (λ entry. nth log.old.bodies pos ≡ Some (spelling entry))) }
     ensures space { length buffer.new ≡ length buffer.old }
     ensures same { (log.new.shape ≡ log.old.shape) × (log.new.stopped ≡ log.old.stopped) × (log.new.spare ≡ log.old.spare) }
     ensures bodies { log.new.bodies ≡ log.old.bodies }
@@ -44,7 +46,14 @@ fn read_entry<D: Disk>(
 {
     let shape = log.shape();
     let len = log.read(pos, buffer)?;
-    Ok(decode_at(alloc, &buffer[..len], pos, shape))
+    Ok(match decode_at(alloc, &buffer[..len], pos, shape) {
+        Ok(entry) => {
+            // The type of an entry keeps its ranges.
+            let _kind = entry.kind();
+            Ok(entry)
+        }
+        Err(error) => Err(error),
+    })
 }
 
 /// The entries of a log, in order.

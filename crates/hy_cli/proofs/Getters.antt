@@ -50,17 +50,23 @@ reads_flag needed f id r none on off accepted = go (one_of id (rows_of f)) refl
     go (Some t) is = rw is (read t is (bytes_eq t (codes "true")) (bytes_eq t (codes "false")) refl refl (rw is at accepted))
 
 -- the last of the commands that a name can be
-pub sim_left : (name : Text) → is_some (command_named name) ≡ true → (name ≡ codes "recover" → ⊥) → (name ≡ codes "check" → ⊥) → name ≡ codes "sim"
-sim_left name known recover check =
-    go (bytes_eq (codes "sim") name) (bytes_eq (codes "recover") name) (bytes_eq (codes "check") name) refl refl refl
+pub sim_left : (name : Text) → is_some (command_named name) ≡ true → (name ≡ codes "recover" → ⊥) → (name ≡ codes "check" → ⊥) → (name ≡ codes "run" → ⊥) → name ≡ codes "sim"
+sim_left name known recover check run =
+    go (bytes_eq (codes "run") name) (bytes_eq (codes "sim") name) (bytes_eq (codes "recover") name) (bytes_eq (codes "check") name) refl refl refl refl
   where
-    go : (s r c : Bool) → bytes_eq (codes "sim") name ≡ s → bytes_eq (codes "recover") name ≡ r → bytes_eq (codes "check") name ≡ c → name ≡ codes "sim"
-    go true r c is _ _ = sym (bytes_same (codes "sim") name is)
-    go false true c _ is _ = absurd (recover (sym (bytes_same (codes "recover") name is)))
-    go false false true _ _ is = absurd (check (sym (bytes_same (codes "check") name is)))
-    go false false false p q r = absurd (true≢false (sym (rw (p, q, r) at known)))
+    go : (n s r c : Bool) → bytes_eq (codes "run") name ≡ n → bytes_eq (codes "sim") name ≡ s → bytes_eq (codes "recover") name ≡ r → bytes_eq (codes "check") name ≡ c → name ≡ codes "sim"
+    go true s r c is _ _ _ = absurd (run (sym (bytes_same (codes "run") name is)))
+    go false true r c _ is _ _ = sym (bytes_same (codes "sim") name is)
+    go false false true c _ _ is _ = absurd (recover (sym (bytes_same (codes "recover") name is)))
+    go false false false true _ _ _ is = absurd (check (sym (bytes_same (codes "check") name is)))
+    go false false false false o p q r = absurd (true≢false (sym (rw (o, p, q, r) at known)))
 
--- what a `sim` has
+-- what a `run` has, and what a `sim` has
+pub run_accepted : (name : Text) (rows : List Row) → name ≡ codes "run" → has_accepted name rows ≡ true → is_accepted rows threads_option ≡ true
+run_accepted name rows is accepted =
+    let all : has_accepted (codes "run") rows ≡ true = subst (λ (x : Text). has_accepted x rows ≡ true) is accepted in
+    (both (is_accepted rows threads_option) _ all).0
+
 pub sim_accepted : (name : Text) (rows : List Row) → name ≡ codes "sim" → has_accepted name rows ≡ true → is_accepted rows threads_option ≡ true
 sim_accepted name rows is accepted =
     let all : has_accepted (codes "sim") rows ≡ true = subst (λ (x : Text). has_accepted x rows ≡ true) is accepted in

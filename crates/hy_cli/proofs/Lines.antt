@@ -8,10 +8,10 @@ use Rattle.clap.specs.Simple.{Shape, built, entered, rows_at, is_simple, label_o
 use Rattle.clap.specs.Takes.{takes, walk_passes}
 use Rattle.clap.proofs.WalkLemmas.{walk_stopped}
 use Rattle.hy_base.specs.Spelling.{Text}
-use Rattle.hy_cli.specs.CommandLine.{CliCommand, CliOption, Given, check_command, choices_given, command_line, command_named, commands, given_all, line_of, recover_command, sim_command, threads_option}
+use Rattle.hy_cli.specs.CommandLine.{CliCommand, CliOption, Given, check_command, choices_given, command_line, command_named, commands, given_all, line_of, recover_command, run_command, sim_command, threads_option}
 use Rattle.hy_cli.specs.Matches.{choices_found, hyder_app, line_found, meant}
 use Rattle.hy_cli.specs.declared.line.Line.{Line}
-use Rattle.hy_cli.specs.declared.line.Line.TheVariants.{Sim}
+use Rattle.hy_cli.specs.declared.line.Line.TheVariants.{Run, Sim}
 use Rattle.hy_cli.proofs.Matches.{number_same}
 use Rattle.hy_cli.proofs.Walks.{AreRight, built_rules, bytes_same, leaf_shape}
 use Rattle.hy_cli.proofs.Levels.{IsTable, leaf_takes, rows_of_all}
@@ -21,8 +21,8 @@ use Rattle.hy_cli.proofs.Levels.{IsTable, leaf_takes, rows_of_all}
 no_table : IsTable []
 no_table = record { known = tt; defaults = refl; free = refl }
 
-sim_table : IsTable sim_command.options
-sim_table = record {
+threads_table : IsTable (threads_option ∷ [])
+threads_table = record {
   known = (record { long = refl; dashes = refl; by_long = refl; by_id = refl; by_name = refl }, tt);
   defaults = refl;
   free = refl;
@@ -51,9 +51,13 @@ pub record Enters (name : Text) (options : List CliOption) : Type 0 where
   pub found : find (λ s. answers_to name (label_of s)) (built hyder_app).subs ≡ Some (leaf_shape name options)
   pub table : IsTable options
 
+run_enters : Enters run_command.name run_command.options
+unfolding walked walk_passes
+run_enters = record { met = refl; passes = λ rest. refl; found = refl; table = threads_table }
+
 sim_enters : Enters sim_command.name sim_command.options
 unfolding walked walk_passes
-sim_enters = record { met = refl; passes = λ rest. refl; found = refl; table = sim_table }
+sim_enters = record { met = refl; passes = λ rest. refl; found = refl; table = threads_table }
 
 recover_enters : Enters recover_command.name []
 unfolding walked walk_passes
@@ -90,15 +94,21 @@ abbrev AreRows : List CliCommand → Type 0
 AreRows [] = Unit {0}
 AreRows (c ∷ cs) = IsRow c × AreRows cs
 
+run_means : (g : Given) → AreRight run_command.options g → run_command.line (choices_found (rows_of_all run_command.options g)) ≡ run_command.line (choices_given g)
+run_means g right = ap (λ n. Run n) (number_same run_command.options (codes "threads") 1 16 2 threads_option g (rows_of_all run_command.options g) right refl refl refl refl)
+
 sim_means : (g : Given) → AreRight sim_command.options g → sim_command.line (choices_found (rows_of_all sim_command.options g)) ≡ sim_command.line (choices_given g)
 sim_means g right = ap (λ n. Sim n) (number_same sim_command.options (codes "threads") 1 16 2 threads_option g (rows_of_all sim_command.options g) right refl refl refl refl)
 
 all_rows : AreRows commands
 all_rows = (
-  record { enters = sim_enters; means = sim_means },
+  record { enters = run_enters; means = run_means },
   (
-    record { enters = recover_enters; means = λ g right. refl },
-    (record { enters = check_enters; means = λ g right. refl }, tt),
+    record { enters = sim_enters; means = sim_means },
+    (
+      record { enters = recover_enters; means = λ g right. refl },
+      (record { enters = check_enters; means = λ g right. refl }, tt),
+    ),
   ),
 )
 

@@ -1,6 +1,6 @@
 -- From the matches of a parse to the line.
 use Rattle.std.proofs.Common.{◌≡◌, ◌∙◌, true, refl, sym, ap, ap₂, subst, List, [], Option, Some, None, is_some, option_map, ⊎_elim}
-use Rattle.std.specs.Prelude.{Box}
+use Rattle.std.specs.Prelude.{Box, slice_get}
 use Rattle.std.specs.Box.{box_value}
 use Rattle.clap.specs.Words.{App, HasKind, Kinds, Row, kind_of, takes, fault_of, is_simple, is_simple_and_free, subcommand_of, subcommand_rows, subcommand_rows_of}
 use Rattle.clap.specs.declared.error.Error.{Error}
@@ -38,6 +38,7 @@ pub record IsRead (words : List Text) (name : Text) (rows : List Row) : Type 0 w
   pub command : is_some (command_named name) ≡ true
   pub accepted : has_accepted name rows ≡ true
   pub named : names_command words ≡ true
+  pub first : slice_get words 1 ≡ Some name
 
 pub is_read : (a : App) (m : ArgMatches) (words : List Text) (name : Text) (rows : List Row) (X : Type 0) → a ≡ hyder_app → (is_simple_and_free a ≡ true → fault_of a words ≡ [])
     → (is_simple a ≡ true → X × (subcommand_rows_of m ≡ subcommand_of a words)) → Some name ≡ subcommand_name_of m
@@ -53,6 +54,7 @@ is_read a m words name rows X app kinds matches named found =
       command = ap (λ n. is_some (command_named n)) same.0 ∙ taken.command;
       accepted = ap₂ has_accepted same.0 same.1 ∙ taken.accepted;
       named = taken.named;
+      first = taken.first ∙ ap (λ n. Some n) (sym same.0);
     }
 
 -- the line that was read is the one that the words ask for

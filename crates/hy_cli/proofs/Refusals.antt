@@ -1,5 +1,6 @@
 -- Where clap refuses nothing, the words name a command, and its options have accepted values.
 use Rattle.std.proofs.Common.{◌≡◌, ◌∙◌, Bool, true, false, refl, sym, ap, subst, List, [], ◌∷◌, length, Option, Some, None, is_some, option_map}
+use Rattle.std.specs.Prelude.{slice_get}
 use Rattle.std.specs.Option.{option_map_or}
 use Rattle.std.specs.List.{list_all}
 use Rattle.std.specs.Str.{bytes_eq}
@@ -106,6 +107,7 @@ pub record IsTaken (words : List Text) : Type 0 where
   pub command : is_some (command_named name) ≡ true
   pub accepted : has_accepted name rows ≡ true
   pub named : names_command words ≡ true
+  pub first : slice_get words 1 ≡ Some name
 
 command_taken : (program : Text) (c : CliCommand) (rest : List Text) → IsRow c → command_named c.name ≡ Some c → fault_of hyder_app (program ∷ (c.name ∷ rest)) ≡ [] → IsTaken (program ∷ (c.name ∷ rest))
 command_taken program c rest row known e =
@@ -118,6 +120,7 @@ command_taken program c rest row known e =
       command = ap is_some known;
       accepted = ap (λ found. option_map_or (λ c. list_all (is_accepted rows) c.options) found false) known ∙ taken.1;
       named = ap is_some known;
+      first = refl;
     }
 
 word_taken : (program word : Text) (rest : List Text) → fault_of hyder_app (program ∷ (word ∷ rest)) ≡ [] → IsTaken (program ∷ (word ∷ rest))

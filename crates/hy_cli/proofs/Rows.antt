@@ -4,7 +4,7 @@ use Rattle.std.specs.Fmt.{digits}
 use Rattle.hy_base.specs.Spelling.{Text}
 use Rattle.hy_cli.specs.CommandLine.{line_of}
 use Rattle.hy_cli.specs.declared.line.Line.{Line}
-use Rattle.hy_cli.specs.declared.line.Line.TheVariants.{Sim, Recover, Check}
+use Rattle.hy_cli.specs.declared.line.Line.TheVariants.{Run, Sim, Recover, Check}
 
 abbrev hyder : List Text → Option Line
 hyder words = line_of (codes "hyder" ∷ words)
@@ -20,6 +20,13 @@ no_command = refl
 
 another_word : hyder (codes "frob" ∷ []) ≡ None
 another_word = refl
+
+two_threads_for_clients : hyder (codes "run" ∷ []) ≡ Some (Run 2)
+two_threads_for_clients = refl
+
+four_threads_for_clients : hyder (codes "run" ∷ threads ∷ codes "4" ∷ []) ≡ Some (Run 4)
+unfolding digits
+four_threads_for_clients = refl
 
 two_threads : hyder (codes "sim" ∷ []) ≡ Some (Sim 2)
 two_threads = refl

@@ -7,7 +7,7 @@ use Rattle.std.specs.Str.Parse.{digits_value}
 use Rattle.hy_base.specs.Spelling.{Text, number_of}
 use Rattle.hy_base.specs.Shape.{IsWithin, is_within}
 use Rattle.hy_cli.specs.declared.line.Line.{Line}
-use Rattle.hy_cli.specs.declared.line.Line.TheVariants.{Sim, Recover, Check}
+use Rattle.hy_cli.specs.declared.line.Line.TheVariants.{Run, Sim, Recover, Check}
 
 -- ---- options
 
@@ -54,6 +54,9 @@ pub record CliCommand : Type 0 where
 abbrev pub threads_option : CliOption
 threads_option = record { name = codes "threads"; kind = number 1 16; needed = false }
 
+abbrev pub run_command : CliCommand
+run_command = record { name = codes "run"; options = threads_option ∷ []; line = λ c. Run (c.number_or 2 (codes "threads")) }
+
 abbrev pub sim_command : CliCommand
 sim_command = record { name = codes "sim"; options = threads_option ∷ []; line = λ c. Sim (c.number_or 2 (codes "threads")) }
 
@@ -64,15 +67,23 @@ abbrev pub check_command : CliCommand
 check_command = record { name = codes "check"; options = []; line = λ c. Check }
 
 abbrev pub commands : List CliCommand
-commands = sim_command ∷ recover_command ∷ check_command ∷ []
+commands = run_command ∷ sim_command ∷ recover_command ∷ check_command ∷ []
 
 abbrev pub command_named : Text → Option CliCommand
 command_named word = find (λ c. bytes_eq c.name word) commands
 
 -- the numbers of a line are in their ranges
 abbrev pub IsInRange : Line → Type 0
+IsInRange (Run threads) = IsWithin 1 16 threads
 IsInRange (Sim threads) = IsWithin 1 16 threads
 IsInRange _ = Unit {0}
+
+-- the word for the command of a line
+abbrev pub command_word : Line → Text
+command_word (Run threads) = codes "run"
+command_word (Sim threads) = codes "sim"
+command_word Recover = codes "recover"
+command_word Check = codes "check"
 
 -- ---- the words after the command
 

@@ -1,6 +1,6 @@
 //! What `clap` is told of the program.
 ghost use Rattle.std.specs.Prelude.{◌≡◌, IfOk, false};
-ghost use Rattle.hy_cli.specs.CommandLine.{sim_command, threads_option};
+ghost use Rattle.hy_cli.specs.CommandLine.{run_command, sim_command, threads_option};
 ghost use Rattle.hy_cli.specs.Matches.{app_for, hyder_app, rule_for};
 ghost use Rattle.clap.specs.Words.{app_of, rule_of};
 ghost use Rattle.clap.specs.declared.builder.command.Command.TheViews.{out-Command};
@@ -18,6 +18,12 @@ fn threads_arg<'a>(alloc: Global) -> Arg<'a>
         .value_parser(clap::value_parser!(u64).range(1..=16))
 }
 
+fn run_command<'a>(alloc: Global) -> Result<Command<'a>, AllocError>
+    ensures { IfOk result (λ c. (app_of c ≡ app_for run_command.name run_command.options) × ((out-Command c).has_globals ≡ false)) }
+{
+    Command::new(alloc, "run").arg(threads_arg(alloc))
+}
+
 fn sim_command<'a>(alloc: Global) -> Result<Command<'a>, AllocError>
     ensures { IfOk result (λ c. (app_of c ≡ app_for sim_command.name sim_command.options) × ((out-Command c).has_globals ≡ false)) }
 {
@@ -32,6 +38,7 @@ pub(crate) fn hyder_command<'a>(alloc: Global) -> Result<Command<'a>, AllocError
         .disable_help_flag(true)
         .disable_help_subcommand(true)
         .subcommand_required(true)
+        .subcommand(run_command(alloc)?)?
         .subcommand(sim_command(alloc)?)?
         .subcommand(Command::new(alloc, "recover"))?
         .subcommand(Command::new(alloc, "check"))

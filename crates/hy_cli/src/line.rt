@@ -8,6 +8,8 @@ use thiserror::Error;
 /// What a command line asks for.
 #[derive(Clone, Copy, Debug, PartialEq, Eq)]
 pub enum Line {
+    /// Run the clients beside each other over the log, rolling it on 1 to 16 threads.
+    Run { threads: u8 },
     /// Run a schedule, on 1 to 16 threads.
     Sim { threads: u8 },
     /// Print what the log holds.

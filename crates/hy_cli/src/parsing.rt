@@ -1,6 +1,6 @@
 //! From the words of a command line to what they ask for.
-ghost use Rattle.std.specs.Prelude.{◌≡◌, Some, false, map, IsErr, IfErr, IfOk, MatchResult};
-ghost use Rattle.hy_cli.specs.CommandLine.{IsInRange, line_of, names_command};
+ghost use Rattle.std.specs.Prelude.{◌≡◌, Some, false, map, IsErr, IfErr, IfOk, MatchResult, slice_get};
+ghost use Rattle.hy_cli.specs.CommandLine.{IsInRange, command_word, line_of, names_command};
 ghost use Rattle.hy_cli.specs.Matches.{Asks, refuses};
 ghost use Rattle.hy_cli.specs.declared.line.Line.{Line};
 
@@ -11,7 +11,7 @@ use clap::error::ErrorKind;
 use hy_base::Words;
 use std::alloc::{AllocError, Global};
 
-/// What the words ask for.
+/// What the words ask for, by the command that the word after the program's name is.
 ///
 /// `Usage`: they ask for nothing that the program does. Words that are a line never are refused so.
 /// `Memory`: memory was wanting.
@@ -20,6 +20,7 @@ pub fn parse(alloc: Global, words: &Words) -> Result<Line, CliError>
     ensures unknown { names_command words.now ≡ false → IsErr result }
     ensures refused { IfErr result (λ e. e ≡ CliError.Usage → refuses words.now) }
     ensures meaning { IfOk result (Asks words.now) }
+    ensures word { IfOk result (λ line. slice_get words.now 1 ≡ Some (command_word line)) }
     ensures range { IfOk result IsInRange }
 {
     let texts = texts_of(alloc, words)?;
@@ -44,6 +45,7 @@ fn parse_texts(alloc: Global, words: &[&str]) -> Result<Line, CliError>
     ensures unknown { names_command (map (λ t. t.now) words.now) ≡ false → IsErr result }
     ensures refused { IfErr result (λ e. e ≡ CliError.Usage → refuses (map (λ t. t.now) words.now)) }
     ensures meaning { IfOk result (Asks (map (λ t. t.now) words.now)) }
+    ensures word { IfOk result (λ line. slice_get (map (λ t. t.now) words.now) 1 ≡ Some (command_word line)) }
     ensures range { IfOk result IsInRange }
 {
     let command = hyder_command(alloc)?;

@@ -16,6 +16,8 @@ fn read(alloc: Global, line: &str) -> Result<Result<Line, CliError>, AllocError>
 fn lines_are_obeyed(rt: HostRuntime) -> Result<(), Fail> {
     let alloc = rt.alloc();
     let table = [
+        ("hyder run", Line::Run { threads: 2 }),
+        ("hyder run --threads 16", Line::Run { threads: 16 }),
         ("hyder sim", Line::Sim { threads: 2 }),
         ("hyder sim --threads 1", Line::Sim { threads: 1 }),
         ("hyder sim --threads 16", Line::Sim { threads: 16 }),
@@ -41,6 +43,10 @@ fn other_words_are_refused(rt: HostRuntime) -> Result<(), Fail> {
         "hyder --version",
         "hyder sim --help",
         "hyder -- sim",
+        "hyder run --help",
+        "hyder run --threads 0",
+        "hyder run --threads 17",
+        "hyder run --save",
         "hyder sim --threads 0",
         "hyder sim --threads 17",
         "hyder sim --threads",

@@ -1,9 +1,9 @@
 //! A simulated run over one log: its state, one event after another.
 //!
 //! It promises to the crates above: a [`Core`] is a script, a state that a run of the script reaches, and the programs that
-//! ended. [`Core::step`] and [`Core::run`] move by an event exactly where it may happen, and else change nothing;
-//! [`Core::next`] is the tail rule, and [`Core::finish`] runs it to its end; then [`Core::outcomes`] are the replies to all
-//! programs. Each server's board is a roller. Steps copy neither the log nor a tree.
+//! ended. [`Core::step`] moves by an event exactly where it may happen, and else changes nothing; [`Core::run`] stops before
+//! the first that may not. [`Core::next`] is the tail rule, and [`Core::finish`] runs it to its end; then
+//! [`Core::outcomes`] are the replies to all programs. Each server's board is a roller. Steps copy neither log nor tree.
 #![tactic(auto)]
 
 mod copies;

@@ -200,6 +200,7 @@ fn pad(alloc: Global, script: &Script, core: &mut Parts, server: u8) -> Result<(
     ensures ok { OnOk result (Steps script.now (held core.old) (held core.new) (Pad server)) }
     ensures err { OnErr result (held core.new ≡ held core.old) }
 {
+    // The servers of a script have their range.
     let _servers = script.servers();
     let len = log_len(script, core);
     let mut fillers = fillers(alloc, server, missing(script, len))?;
@@ -240,6 +241,7 @@ fn publish<R: Threads + Sync, G: Gate + Sync>(
     ensures ok { OnOk result (Steps script.now (held core.old) (held core.new) (Publish server upto)) }
     ensures err { OnErr result (held core.new ≡ held core.old) }
 {
+    // The shape of a script is good.
     let _shape = script.shape();
     let Some(roller) = roller_of(&core.rollers, server) else {
         unreachable!();
@@ -256,6 +258,7 @@ fn append_at_end(script: &Script, core: &mut Parts, client: u8) -> Result<(), Al
     ensures ok { OnOk result (Steps script.now (held core.old) (held core.new) (Append client)) }
     ensures err { OnErr result (held core.new ≡ held core.old) }
 {
+    // The shape of a script is good.
     let _shape = script.shape();
     let pos = log_len(script, core) + 1;
     append(core, client, pos)
@@ -267,6 +270,7 @@ fn finish_reading(script: &Script, core: &mut Parts, client: u8) -> Result<(), A
     ensures ok { OnOk result (Steps script.now (held core.old) (held core.new) (Ends client)) }
     ensures err { OnErr result (held core.new ≡ held core.old) }
 {
+    // The shape of a script is good.
     let _shape = script.shape();
     finish(core, client, End::Reading)
 }
@@ -277,6 +281,7 @@ fn finish_refused(script: &Script, core: &mut Parts, client: u8) -> Result<(), A
     ensures ok { OnOk result (Steps script.now (held core.old) (held core.new) (Refuse client)) }
     ensures err { OnErr result (held core.new ≡ held core.old) }
 {
+    // The shape of a script is good.
     let _shape = script.shape();
     finish(core, client, End::FullLog)
 }

@@ -143,6 +143,7 @@ pub(crate) fn log_len(script: &Script, core: &Parts) -> Pos
     requires holding { IsHolding script.now (held core.now) }
     ensures { result ≡ length (held core.now).log }
 {
+    // The cap of a shape has its range.
     let _cap = script.shape().cap;
     core.log.len() as Pos
 }

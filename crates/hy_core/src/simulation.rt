@@ -74,12 +74,13 @@ impl Core {
     pub fn new(alloc: Global, script: Script) -> Result<Core, AllocError>
         ensures { IfOk result (λ core. core ≡ opened script) }
     {
+        // The shape of a script is good.
         let _shape = script.shape();
         let parts = open(alloc, &script)?;
         Ok(Core { script, parts })
     }
 
-    /// The script, lent. What the core tells is what some events of it have led to.
+    /// The script, lent. The state is one that some run of it reaches (`reached`).
     pub fn script(&self) -> &Script
         ensures script { result.now ≡ self.now.script }
         ensures reached { IsReached self.now }
@@ -207,6 +208,7 @@ impl Core {
         ensures at { result.0 ≡ board_of self.now.state server }
         ensures rows { result.1.now ≡ rows self.now.script.shape self.now.state.log (board_of self.now.state server) }
     {
+        // The shape of a script is good.
         let _shape = self.script.shape();
         let Some(roller) = roller_of(&self.parts.rollers, server) else {
             unreachable!();

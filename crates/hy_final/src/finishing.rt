@@ -82,8 +82,9 @@ fn verdicts_of(alloc: Global, fate: Verdict, members: &[Member]) -> Result<Verdi
     Ok(Items::from_vec(verdicts))
 }
 
-/// Judges a staged group on the rows before it. It walks the rows once, and where the members commit once more, to put
-/// their writes in place. The rows that were given stay as they are. `AllocError` where memory is wanting.
+/// Judges a staged group on the rows before it. For each mark of the group it goes down one path of the rows, or the part
+/// that the mark covers, and where the members commit it puts each of their writes in place. The rows that were given stay
+/// as they are. `AllocError` where memory is wanting.
 pub fn finish(alloc: Global, cur: &Tree, staged: &Staged) -> Result<Finished, AllocError>
     ensures decided { IfOk result (IsFinished cur.now staged.now) }
     ensures next { IfOk result (IsFinishOf cur.now staged.now) }

@@ -107,6 +107,10 @@ input_line bytes sim short =
     (λ reading is. then_line AreOnLines HasLines (schedule_at bytes reading.script reading.schedule) _ (schedule_line bytes reading.script reading.schedule is)
     (λ events are. all_lines events are))
 
+-- a line that is refused is one from 1 on, unless the text is too long
+pub refused_line : (bytes : Text) (sim : Bool) (n : ℕ) (why : Why) → length bytes ≤ 16777216 → read_input bytes sim ≡ refused n why → 0 < n
+refused_line bytes sim n why short read = subst (OnALine HasLines) read (input_line bytes sim short)
+
 -- ---- an event of the schedule that may not happen
 
 shifted : (n : ℕ) (o : Option ℕ) → IfSome o (λ k. k < n) → IfSome (option_map suc o) (λ k. k < suc n)

@@ -2,7 +2,7 @@
 //!
 //! It promises to the crates above: a [`Roller`] is a `Roll` of the rules. [`Roller::roll`] goes on by whole groups, exactly as the
 //! rules do, however the log is cut into calls, by any number of threads and under any [`Gate`].
-//! By the laws of the rules a roller then stands for the log that it has rolled.
+//! By the laws here a roller then stands for the log that it has rolled.
 #![tactic(auto)]
 
 mod gate;

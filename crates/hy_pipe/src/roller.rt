@@ -137,7 +137,7 @@ impl Roller {
     }
 
     /// Further by the groups of these entries, which follow those that were rolled. Each group enters the gate once.
-    /// `AllocError` where memory is wanting.
+    /// Today it rolls on the caller's thread, whatever the number of threads. `AllocError` where memory is wanting.
     pub fn roll<R: Threads + Sync, G: Gate + Sync>(
         &self,
         rt: &R,

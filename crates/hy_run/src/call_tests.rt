@@ -1,12 +1,13 @@
 //! Whole calls on sources, sinks and devices in memory.
 use crate::{Done, Status, Which, Why, hyder_call};
-use hy_base::Words;
+use hy_base::{Field, Words};
 use hy_disk::{Disk, Tuned};
 use hy_io::{MemSink, MemSource};
 use hy_mem::MemDisk;
 use hy_pipe::OpenGate;
 use hy_rules::{Damage, LogPlace};
 use std::alloc::Global;
+use std::sync::Wait;
 use std::test::Fail;
 use std::thread::Threads;
 
@@ -30,7 +31,7 @@ const SHORT_PUT: &[u8] = b"shape 1 1 8\nservers 1\nclient 1\nbegin\nput 1\nend\n
 const USAGE: &[u8] = b"hyder: usage: run|sim|recover|check|load\n";
 
 // A call: its words after the program's name, its source with the calls that fail, and the same of its sink.
-fn call<R: Threads + Sync>(
+fn call<R: Threads + Wait + Sync>(
     rt: &R,
     alloc: Global,
     asked: &[&str],
@@ -400,6 +401,14 @@ fn statuses_are_numbered(rt: HostRuntime) {
             },
             6,
         ),
+        (
+            Status::Config {
+                field: Field::Group,
+                log: 2,
+                asked: 4,
+            },
+            7,
+        ),
         (Status::Memory, 9),
     ];
     for (status, number) in rows {
@@ -423,7 +432,7 @@ fn one_entry(group: u8, body: &[u8]) -> [u8; 513] {
 }
 
 // The device of a log of one put.
-fn one_put() -> [u8; 513] {
+pub(crate) fn one_put() -> [u8; 513] {
     let body = [
         1, 1, 1, 0, 0, 0, 0, 0, 0, 1, 1, 0, 0, 0, 0, 0, 0, 0, 1, 1, 0, b'a',
     ];
@@ -431,7 +440,7 @@ fn one_put() -> [u8; 513] {
 }
 
 // What a command that looks at the log says of a device with these bytes, whose calls with these numbers fail.
-fn look<R: Threads + Sync>(
+fn look<R: Threads + Wait + Sync>(
     rt: &R,
     alloc: Global,
     command: &str,
@@ -459,10 +468,10 @@ fn look<R: Threads + Sync>(
     Ok((done, sink))
 }
 
-const DUMP: &[u8] =
+pub(crate) const DUMP: &[u8] =
     b"log group 1 window 1 cap 8 entries 1\nentry 1 server 1 client 1 snap 0 points 0 spans 0 writes 1\n";
 
-const CHECK: &[u8] = b"at 1 commit\nstate 1 rows 1\nrow 1 a by 1\n";
+pub(crate) const CHECK: &[u8] = b"at 1 commit\nstate 1 rows 1\nrow 1 a by 1\n";
 
 #[test]
 fn a_log_is_dumped_and_checked(rt: HostRuntime) -> Result<(), Fail> {

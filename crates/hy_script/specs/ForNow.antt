@@ -1,4 +1,4 @@
--- What the first stages of the program don't do, and what is refused for that. To lift a restriction, delete its definitions here and each of their uses.
+-- What no script may order today, and is refused for that. To lift the restriction, delete the definitions here and each of their uses.
 use Rattle.std.specs.Prelude.{Bool, not, List, codes, ⊤}
 use Rattle.hy_base.specs.declared.workload.Event.{Event}
 use Rattle.hy_base.specs.declared.workload.Event.TheVariants.{Begin, Append, End, Refuse, Pad, Publish, Stop}

@@ -38,7 +38,7 @@ pub record IsSerializable (r : SerialRun) : Type 0 where
   pub commits : AllByRecursion (CommitsSerially r) r.done
   -- each program that only read gives its printed answers right after its snapshot
   pub readers : AllByRecursion (ReadsSerially r) r.done
-  -- after each group the map holds what each server at that position holds
+  -- after each group the map holds the keys and values that the log up to there leaves
   pub groups : (pos : ℕ) → pos % r.workload.shape.group ≡ 0 → pos ≤ length r.log → serial_map r pos ≡ live r.workload.shape r.log pos
   -- in the end it holds what the whole log leaves
   pub rows : serial_map r (length r.log) ≡ live r.workload.shape r.log (length r.log)

@@ -4,7 +4,7 @@
 ghost use Rattle.std.specs.Prelude.{◌≡◌, ◌∷◌, ◌+◌, ◌-◌, ◌++◌, [], length, codes, decimal, flat_map, IfOk, OnOk};
 ghost use Rattle.std.specs.List.{enumerate_from};
 ghost use Rattle.hy_base.specs.Spelling.{line};
-ghost use Rattle.hy_rules.specs.Texts.{check_text, device_fault_text, dump_text, entry_fault_text, entry_text, judged_text, page_fault_text, row_text, waiting_text};
+ghost use Rattle.hy_rules.specs.Texts.{check_text, config_fault_text, device_fault_text, dump_text, entry_fault_text, entry_text, judged_text, page_fault_text, row_text, waiting_text};
 
 use crate::texts::{Word, put_line, put_rows, put_verdict};
 use hy_base::{Entry, EntryKind, Intention, Pos, Row, Shape, Verdict};
@@ -203,5 +203,21 @@ pub fn entry_line(alloc: Global, pos: Pos, why: &str) -> Result<Vec<u8>, AllocEr
     let mut out = Vec::new(alloc);
     let words = [Word::Number(pos as u64), Word::Plain(why.as_bytes())];
     put_line(&mut out, b"hyder: log entry", &words)?;
+    Ok(out)
+}
+
+/// The line for a log of another shape: the field in which it differs, as the log has it and as the script asks for it.
+pub fn config_line(alloc: Global, field: &str, log: u32, script: u32) -> Result<Vec<u8>, AllocError>
+    ensures { IfOk result (λ text. text.items ≡ config_fault_text field.now log script) }
+{
+    let mut out = Vec::new(alloc);
+    let words = [
+        Word::Plain(field.as_bytes()),
+        Word::Plain(b"log"),
+        Word::Number(log as u64),
+        Word::Plain(b"script"),
+        Word::Number(script as u64),
+    ];
+    put_line(&mut out, b"hyder: config", &words)?;
     Ok(out)
 }

@@ -53,10 +53,10 @@ fn writes_two_sums(rt: HostRuntime) -> Result<(), Fail> {
         b"program 1 1\nsum 1\nat 1 commit\nprogram 2 1\nsum 1\nat 2 abort final 7 by 1\nserver 1 at 2 rows 1\nrow 7 1 by 1\n";
     assert_eq!(rt; report.as_slice(), wanted.as_slice());
 
-    let refused = script_line(alloc, 5, "unbuilt")?;
+    let refused = script_line(alloc, 5, "count")?;
     assert_eq!(rt;
         refused.as_slice(),
-        b"hyder: script line 5 unbuilt\n".as_slice()
+        b"hyder: script line 5 count\n".as_slice()
     );
     assert_eq!(rt;
         usage_line(),
@@ -176,5 +176,10 @@ fn writes_a_log_that_is_refused(rt: HostRuntime) -> Result<(), Fail> {
     );
     let entry = entry_line(alloc, 2, "snap")?;
     assert_eq!(rt; entry.as_slice(), b"hyder: log entry 2 snap\n".as_slice());
+    let config = config_line(alloc, "group", 2, 4)?;
+    assert_eq!(rt;
+        config.as_slice(),
+        b"hyder: config group log 2 script 4\n".as_slice()
+    );
     Ok(())
 }

@@ -1,13 +1,14 @@
 //! The program `hyder`: bytes in, text out, and a status.
 //!
-//! `hyder sim` reads a script from the standard input, runs it, and writes the trace and the report to the standard output.
-//! `hyder recover` writes the dump of the log in the file `hyder.log` of the working directory, and `hyder check` what became
-//! of its entries. The status is 0 where all of that text is written, 1 for a fault of usage, 2 for a script that is refused,
-//! 3 and 4 where the input or the output fails, 5 where a file fails, 6 for a log that is refused, and 9 where memory is
+//! `hyder run` reads a script from the standard input and runs its clients over the log in the file `hyder.log` of the working
+//! directory; `hyder sim` runs a script with its schedule, and touches no file. Both write the trace and the report to the
+//! standard output. `hyder recover` writes the dump of the log, and `hyder check` what became of its entries. The status is 0
+//! where all of that text is written, 1 for a fault of usage, 2 for a script that is refused, 3 and 4 where the input or the
+//! output fails, 5 where a file fails, 6 for a log that is refused, 7 for one of another shape, and 9 where memory is
 //! wanting; all but 0 and 4 have one line. Nothing goes to the standard error.
 #![tactic(auto)]
 
-ghost use Rattle.std.specs.Prelude.{◌≡◌, ◌≤◌, ◌⊎◌, ℕ, IsTrue, Err, IfOk, map, string_bytes};
+ghost use Rattle.std.specs.Prelude.{◌≡◌, ◌≤◌, ◌⊎◌, ℕ, IfOk, map, string_bytes};
 ghost use Rattle.std.specs.Vec.Iter.{into_iter_items};
 ghost use Rattle.std.specs.Process.{exit_status};
 ghost use Rattle.std.specs.Io.KnownBytes.{Appends};
@@ -15,12 +16,16 @@ ghost use Rattle.hy_base.specs.Faults.{Rose};
 ghost use Rattle.hy_base.specs.Spelling.{Text};
 ghost use Rattle.hy_cli.specs.Matches.{Asks, refuses};
 ghost use Rattle.hy_cli.specs.declared.line.Line.{Line};
-ghost use Rattle.hy_cli.specs.declared.line.Line.TheVariants.{Sim};
-ghost use Rattle.hy_rules.specs.declared.damage.LogFault.{LogFault};
-ghost use Rattle.hy_rules.specs.Recovery.{recovered};
+ghost use Rattle.hy_cli.specs.declared.line.Line.TheVariants.{Run};
+ghost use Rattle.hy_disk.specs.Content.{Content};
+ghost use Rattle.hy_rules.specs.declared.damage.Damage.{Damage};
+ghost use Rattle.hy_rules.specs.declared.damage.LogPlace.{LogPlace};
 ghost use Rattle.hy_rules.specs.Texts.{usage_text};
-ghost use Rattle.hy_run.specs.Obeying.{IsTextOf};
-ghost use Rattle.hy_run.specs.Output.{IsRefused, WritesLine, WritesPartOf, status_number};
+ghost use Rattle.hy_run.specs.Obeying.{IsLogCause, IsScriptCause, IsTextOf};
+ghost use Rattle.hy_run.specs.Output.{WritesLine, WritesPartOf, status_number};
+ghost use Rattle.hy_run.specs.Running.{IsLogRefused};
+ghost use Rattle.hy_run.specs.declared.status.Status.TheVariants.{Config};
+ghost use Rattle.hy_base.specs.declared.layout.Field.{Field};
 ghost use Rattle.hy_script.specs.declared.why.Why.{Why};
 
 use hy_base::Words;
@@ -31,6 +36,7 @@ use hy_pipe::{Gate, OpenGate};
 use hy_run::{Status, hyder_call};
 use std::alloc::{AllocError, Global};
 use std::process::ExitCode;
+use std::sync::Wait;
 use std::thread::Threads;
 use std::{env, io};
 
@@ -62,7 +68,7 @@ fn exit_code(status: Status) -> ExitCode
 }
 
 // Does what the words ask for, and says by the exit status how it ended.
-fn call<R: Threads + Sync, S: Source, K: Sink, D: Disk + Drop, G: Gate + Sync>(
+fn call<R: Threads + Wait + Sync, S: Source, K: Sink, D: Disk + Drop + Send, G: Gate + Sync>(
     rt: &R,
     alloc: Global,
     words: &Words,
@@ -73,14 +79,15 @@ fn call<R: Threads + Sync, S: Source, K: Sink, D: Disk + Drop, G: Gate + Sync>(
     gate: &G,
 ) -> ExitCode
     // What each exit status says.
-    ensures fine { exit_status result ≡ 0 → (line : Line) × (text : Text) × Asks words.now line × IsTextOf line (S.left source.old) D.tells (D.content log).seen text × Appends (K.taken sink.old) (K.taken sink.new) text }
+    ensures fine { exit_status result ≡ 0 → (line : Line) × (text : Text) × (now : Content) × (acked : ℕ) × Asks words.now line × IsTextOf line (S.left source.old) D.tells (D.content log).seen now acked text × Appends (K.taken sink.old) (K.taken sink.new) text }
     ensures usage { exit_status result ≡ 1 → refuses words.now }
-    ensures script { exit_status result ≡ 2 → (n : ℕ) × (why : Why) × ((threads : ℕ) × Asks words.now (Sim threads) × IsRefused (S.left source.old) n why) }
+    ensures script { exit_status result ≡ 2 → (n : ℕ) × (why : Why) × ((line : Line) × Asks words.now line × IsScriptCause line (S.left source.old) n why) }
     ensures source { exit_status result ≡ 3 → Rose (S.faults source.old) (S.faults source.new) }
     ensures sink { exit_status result ≡ 4 → Rose (K.faults sink.old) (K.faults sink.new) }
-    ensures sink_part { exit_status result ≡ 4 → (line : Line) × (text : Text) × Asks words.now line × IsTextOf line (S.left source.old) D.tells (D.content log).seen text × WritesPartOf (K.taken sink.old) (K.taken sink.new) text }
-    ensures log { exit_status result ≡ 6 → IsTrue D.tells → (fault : LogFault) × (recovered (D.content log).seen ≡ Err fault) }
-    ensures others { (exit_status result ≤ 6) ⊎ (exit_status result ≡ 9) }
+    ensures sink_part { exit_status result ≡ 4 → (line : Line) × (text : Text) × (now : Content) × (acked : ℕ) × Asks words.now line × IsTextOf line (S.left source.old) D.tells (D.content log).seen now acked text × WritesPartOf (K.taken sink.old) (K.taken sink.new) text }
+    ensures log { exit_status result ≡ 6 → (place : LogPlace) × (why : Damage) × ((line : Line) × Asks words.now line × IsLogCause line (S.left source.old) D.tells (D.content log).seen place why) }
+    ensures config { exit_status result ≡ 7 → (field : Field) × (held : ℕ) × (asked : ℕ) × ((threads : ℕ) × Asks words.now (Run threads) × IsLogRefused (S.left source.old) D.tells (D.content log).seen (Config field held asked)) }
+    ensures others { (exit_status result ≤ 7) ⊎ (exit_status result ≡ 9) }
 
     // When it must come, unless memory runs out.
     ensures usage_always { refuses words.now → (exit_status result ≡ 1) ⊎ (exit_status result ≡ 9) }

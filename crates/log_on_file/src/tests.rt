@@ -1,6 +1,7 @@
 //! A log on a real file is appended to, closed, opened again, damaged, and refused.
-ghost use Rattle.std.specs.Prelude.{◌≡◌, ◌≤◌, IfOk, length};
+ghost use Rattle.std.specs.Prelude.{◌≤◌, length};
 
+use crate::body_buffer;
 use hy_base::Shape;
 use hy_disk::Disk;
 use hy_file::FileDisk;
@@ -23,17 +24,11 @@ const SHAPE: Shape = Shape {
     cap: 8,
 };
 
-fn zeros(alloc: Global) -> Result<Vec<u8>, AllocError>
-    ensures { IfOk result (λ bytes. length bytes.items ≡ 18634) }
-{
-    vec![in alloc; 0; 18634]
-}
-
 // Whether the first body is the put.
 fn begins_with_put<D: Disk>(alloc: Global, log: &mut PageLog<D>) -> Result<bool, AllocError>
     requires { 1 ≤ length log.old.bodies }
 {
-    let mut buffer = zeros(alloc)?;
+    let mut buffer = body_buffer(alloc)?;
     Ok(match log.read(1, &mut buffer) {
         Ok(len) => &buffer[..len] == PUT.as_slice(),
         Err(_) => false,

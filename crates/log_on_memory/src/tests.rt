@@ -2,6 +2,7 @@
 ghost use Rattle.std.specs.Prelude.{◌≤◌, IfOk};
 ghost use Rattle.hy_base.specs.Shape.{IsGoodShape};
 
+use crate::log_with_room;
 use hy_base::{Field, Shape};
 use hy_disk::Tuned;
 use hy_log::{AppendError, OpenError, PageLog, open_log};
@@ -31,12 +32,9 @@ fn log_on(alloc: Global, disk: MemDisk, shape: Shape) -> Result<PageLog<MemDisk>
     requires { IsGoodShape shape }
     ensures { IfOk result (λ log. 4 ≤ log.spare) }
 {
-    let mut disk = disk;
-    disk.room(4096, 40)?;
-    let Ok(mut log) = open_log(alloc, disk, Some(shape)) else {
+    let Some(log) = log_with_room(alloc, disk, shape) else {
         return Err("not opened")?;
     };
-    log.reserve(4)?;
     Ok(log)
 }
 

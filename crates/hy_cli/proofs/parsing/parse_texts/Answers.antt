@@ -1,4 +1,4 @@
-use Rattle.std.proofs.Common.{◌≡◌, ◌∙◌, refl, sym, map}
+use Rattle.std.proofs.Common.{◌≡◌, ◌∙◌, Some, refl, sym, ap, map}
 use Rattle.clap.specs.Words.{app_of, found_of, kind_of, rows_of}
 use Rattle.clap.specs.declared.error.kind.ErrorKind.TheVariants.{OutOfMemory}
 use Rattle.hy_cli.proofs.Parsed.{is_read, never_refused, read_obeys, refusal}
@@ -30,6 +30,13 @@ returns-in-Some-clause-unknown c =
     c.in_ok-command.ensures m.kinds m.matches c.in-Some.ensures.name c.in-Some.ensures.rows in
     λ e. sym e ∙ read.named
 
+pub returns-in-Some-clause-word : goal.returns-in-Some-clause-word
+returns-in-Some-clause-word c =
+    let m = c.in-Ok.ensures in
+    let read = is_read (app_of c.in_ok-command.command) c.in-Ok.matches (map (λ t. t.now) c.args.words.now) c.in-Some.name.now (rows_of (found_of c.in-Some.found.now)) _
+    c.in_ok-command.ensures m.kinds m.matches c.in-Some.ensures.name c.in-Some.ensures.rows in
+    read.first ∙ ap (λ n. Some n) (sym c.line_from.ensures.word)
+
 pub returns : goal.returns
 returns c =
     let words = map (λ t. t.now) c.args.words.now in
@@ -39,5 +46,6 @@ returns c =
       unknown = λ e. refl;
       refused = λ e. refusal (app_of c.in_ok-command.command) words c.in-Err.error c.in_ok-command.ensures c.in-Err.ensures.kinds other;
       meaning = tt;
+      word = tt;
       range = tt;
     }

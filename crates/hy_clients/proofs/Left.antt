@@ -1,0 +1,162 @@
+-- What is left of a run when its hub is closed.
+use Rattle.std.proofs.Common.{◌≡◌, ◌≢◌, ℕ, ◌+◌, ◌≤◌, Bool, true, false, IsTrue, List, [], ◌∷◌, ◌++◌, length, take, drop, map, Some, None, refl, ap, sym, ◌∙◌, subst, arith, append_assoc, length-append}
+use Rattle.std.specs.Prelude.{All, Option, ◌==◌, ◌/◌}
+use Rattle.std.specs.List.{list_all}
+use Rattle.std.proofs.lemmas.List.{take_all}
+use Rattle.std.proofs.lemmas.List.Elements.{All-nil, All-cons, All-head, All-tail}
+use Rattle.std.proofs.lemmas.Bool.Decides.{nat_tests}
+use Rattle.std.proofs.Math.Nat.{mul-div_cancel_left}
+use mathlib.Core.List.{IsPrefix}
+use Rattle.hy_base.specs.Faults.{Rose}
+use Rattle.hy_base.specs.Log.{HaveLawfulSnaps, IsLawful}
+use Rattle.hy_base.specs.Shape.{IsGoodShape}
+use Rattle.hy_base.specs.Script.{Workload}
+use Rattle.hy_base.specs.declared.layout.Shape.{Shape}
+use Rattle.hy_base.specs.declared.record.EntryKind.{EntryKind}
+use Rattle.hy_disk.specs.Content.{Content}
+use Rattle.hy_log.specs.View.{View, HoldsAtMost}
+use Rattle.hy_rules.specs.EntryFormat.{spelling}
+use Rattle.hy_rules.specs.Moves.{Setting}
+use Rattle.hy_rules.specs.Rolling.{Roll, rolled_upto, Stands}
+use Rattle.hy_rules.specs.Runs.{setting_of as script_setting}
+use Rattle.hy_rules.specs.Validation.{verdicts, verdicts_after}
+use Rattle.hy_rules.proofs.Growth.{verdict_count}
+use Rattle.hy_hub.specs.declared.mark.Opening.{Opening}
+use Rattle.hy_hub.specs.declared.mark.Mark.{Mark}
+use Rattle.hy_hub.specs.declared.mark.Mark.TheVariants.{Opened}
+use Rattle.hy_hub.specs.Trace.{setting_of, state_of}
+use Rattle.hy_hub.specs.Hub.{IsBoard, IsTold, IsTorn}
+use Rattle.hy_hub.specs.Close.{IsClosed}
+use Rattle.hy_hub.specs.Outset.{IsOutset}
+use Rattle.hy_hist.proofs.Lists.{prefix_self}
+use Rattle.hy_base.specs.declared.workload.Home.{Home}
+use Rattle.hy_hub.proofs.Lists.{left_of, right_of}
+use Rattle.hy_hub.proofs.Told.{told_setting}
+use Rattle.hy_hub.proofs.Passing.{log_more}
+use Rattle.hy_clients.specs.Passing.{OpensStanding, opened_log, opened_faults}
+use Rattle.hy_clients.specs.Replying.{KeepsAll}
+use Rattle.hy_clients.specs.Finished.{IsCutShort}
+
+-- ---- logs
+
+snaps_first : (s : Shape) (pos : ℕ) (xs ys : List EntryKind) → HaveLawfulSnaps s pos (xs ++ ys) → HaveLawfulSnaps s pos xs
+snaps_first s pos [] ys all = tt
+snaps_first s pos (x ∷ xs) ys all = (all.0, snaps_first s (pos + 1) xs ys all.1)
+
+lawful_first : (s : Shape) (xs ys : List EntryKind) → IsLawful s (xs ++ ys) → IsLawful s xs
+lawful_first s xs ys lawful = record { capacity = let c = lawful.capacity in omega (arith, c, length-append xs ys); snaps = snaps_first s 0 xs ys lawful.snaps }
+
+-- the log begins with that of the opening
+pub found_first : (list : List Mark) → IsTold list → IsPrefix (opened_log list) (state_of list).log
+found_first list is =
+    let o = is.opened in
+    let t = is.told in
+    let p : IsPrefix (Opened o ∷ []) list = (t.past, sym t.begins) in
+    subst (λ (l : List EntryKind). IsPrefix l (state_of list).log) (sym (ap opened_log t.begins)) (log_more o [] list p)
+
+-- ---- a log that was cut short
+
+module _ {D : Type 0} {tells : Bool} {content : D → Content} {faults : ℕ} {list : List Mark} {log : View D} {entries : List EntryKind} {rollers : List Roll} (closed : IsClosed tells content faults list log entries rollers) where
+  abbrev o : Opening
+  o = closed.told.opened
+
+  shape_of : (setting_of list).shape ≡ log.shape
+  shape_of = ap (λ (w : Setting). w.shape) (told_setting closed.told.opened list _ _ closed.told.told) ∙ sym closed.stored.shape_is
+
+  -- a log that runs, or that doesn't tell its bodies
+  whole_cut : (shape : Shape) → (setting_of list).shape ≡ shape → (IsTrue tells → log.stopped ≡ None) → IsCutShort tells content shape (opened_log list) log
+  whole_cut shape same runs = record {
+    entries = (state_of list).log;
+    begins = found_first list closed.told;
+    lawful = subst (λ (s : Shape). IsLawful s (state_of list).log) (sym closed.stored.shape_is ∙ (sym shape_of ∙ same)) closed.told.lawful;
+    log_shape = sym shape_of ∙ same;
+    bodies = λ t. closed.stored.whole t (runs t) ∙ ap (map spelling) closed.entries_are;
+    torn = λ t some. absurd (some (runs t));
+  }
+
+  torn_cut : (shape : Shape) → (setting_of list).shape ≡ shape → IsTorn content log entries → IsCutShort tells content shape (opened_log list) log
+  torn_cut shape same torn =
+      let here : log.shape ≡ shape = sym shape_of ∙ same in
+      let mine = closed.entries_are in
+      let found = found_first list closed.told in
+      let more : entries ++ (torn.stored ++ torn.last ∷ []) ≡ ((state_of list).log ++ torn.stored) ++ torn.last ∷ [] = sym (append_assoc entries torn.stored (torn.last ∷ [])) ∙ ap (λ (l : List EntryKind). (l ++ torn.stored) ++ torn.last ∷ []) mine in
+      let lawful : IsLawful shape (((state_of list).log ++ torn.stored) ++ torn.last ∷ []) = subst (IsLawful shape) more (subst (λ (s : Shape). IsLawful s (entries ++ (torn.stored ++ torn.last ∷ []))) here torn.lawful) in
+      record {
+        entries = (state_of list).log ++ torn.stored;
+        begins = (found.0 ++ torn.stored, sym (append_assoc (opened_log list) found.0 torn.stored) ∙ ap (λ (l : List EntryKind). l ++ torn.stored) found.1);
+        lawful = lawful_first shape ((state_of list).log ++ torn.stored) (torn.last ∷ []) lawful;
+        log_shape = here;
+        bodies = λ t. torn.bodies ∙ ap (λ (l : List EntryKind). map spelling (l ++ torn.stored)) mine;
+        torn = λ t some. (torn.last, lawful, λ image is. subst (λ (s : Shape). HoldsAtMost s log.bodies (spelling torn.last) image) here (torn.left image is));
+      }
+
+  by_stop : (shape : Shape) → (setting_of list).shape ≡ shape → (told : Bool) → tells ≡ told → (stop : Option ℕ) → log.stopped ≡ stop → IsCutShort tells content shape (opened_log list) log
+  by_stop shape same told telling None is = whole_cut shape same (λ t. is)
+  by_stop shape same false telling (Some at) is = whole_cut shape same (λ t. absurd (cc))
+  by_stop shape same true telling (Some at) is = torn_cut shape same (closed.stored.torn telling (λ none. absurd (cc)))
+
+  pub cut_short : (shape : Shape) → (setting_of list).shape ≡ shape → IsCutShort tells content shape (opened_log list) log
+  cut_short shape same = by_stop shape same tells refl log.stopped refl
+
+  pub no_fewer : opened_faults list ≤ faults
+  no_fewer = let e : opened_faults list ≡ closed.told.opened.faults = ap opened_faults closed.told.told.begins in let n = closed.stored.no_less in omega (arith, e, n)
+
+  pub rose : log.stopped ≢ None → Rose (opened_faults list) faults
+  rose stopped = subst (λ (n : ℕ). Rose n faults) (sym (ap opened_faults closed.told.told.begins)) (closed.stored.cause stopped)
+
+-- what the opening says, by a beginning of the list
+opened_same : (first list : List Mark) → IsTold first → IsPrefix first list → (opened_log list ≡ opened_log first) × (setting_of list ≡ setting_of first)
+opened_same first list is p =
+    let b = is.told.begins in (
+      ap opened_log (sym p.1) ∙ (ap (λ (l : List Mark). opened_log (l ++ p.0)) b ∙ sym (ap opened_log b)),
+      ap setting_of (sym p.1) ∙ (ap (λ (l : List Mark). setting_of (l ++ p.0)) b ∙ sym (ap setting_of b)),
+    )
+
+-- the log of a hub that was closed, by what its first pass had seen
+pub run_cut : {D : Type 0} {tells : Bool} {content : D → Content} {faults : ℕ} {list : List Mark} {log : View D} {entries : List EntryKind} {rollers : List Roll} (closed : IsClosed tells content faults list log entries rollers) (script : Workload) (first : List Mark)
+    → IsTold first → IsPrefix first list → setting_of first ≡ script_setting script → IsCutShort tells content script.shape (opened_log first) log
+run_cut {D} {tells} {content} {faults} {list} {log} {entries} {rollers} closed script first is p same =
+    let o = opened_same first list is p in
+    let shape : (setting_of list).shape ≡ script.shape = ap (λ (w : Setting). w.shape) (o.1 ∙ same) in
+    subst (λ (l : List EntryKind). IsCutShort tells content script.shape l log) o.0 (cut_short closed script.shape shape)
+
+-- the log before a hub was made of it, or where none was
+pub outset_cut : {D : Type 0} (tells : Bool) (content : D → Content) (log back : View D) (entries : List EntryKind) (start : Roll) (servers : ℕ) (homes : List Home) (shape : Shape)
+    → IsOutset tells log entries start servers homes → start.shape ≡ shape → back.shape ≡ log.shape → back.stopped ≡ None → (IsTrue tells → back.bodies ≡ log.bodies) → IsCutShort tells content shape entries back
+outset_cut tells content log back entries start servers homes shape outset same here running bodies = record {
+  entries = entries;
+  begins = prefix_self entries;
+  lawful = subst (λ (s : Shape). IsLawful s entries) same outset.lawful;
+  log_shape = here ∙ (outset.shape ∙ same);
+  bodies = λ t. bodies t ∙ outset.bodies t;
+  torn = λ t some. absurd (some running);
+}
+
+-- ---- rollers of a whole log
+
+pub all_stand : (o : Opening) (log : List EntryKind) (rs : List Roll) → Stands (take (rolled_upto o.start) o.found) o.start → All (IsBoard o log) rs → list_all (λ board. board == length log) (map rolled_upto rs) ≡ true → All (λ r. Stands log r) rs
+all_stand o log [] stood all ends = All-nil _
+all_stand o log (r ∷ rs) stood all ends =
+    let same : rolled_upto r ≡ length log = let e = left_of (rolled_upto r == length log) _ ends in grind (arith, nat_tests) in
+    let own = (All-head (IsBoard o log) r rs all).stands stood in
+    let whole : take (rolled_upto r) log ≡ log = ap (λ (n : ℕ). take n log) same ∙ take_all (length log) log (omega arith) in
+    All-cons (λ r. Stands log r) r rs (subst (λ (l : List EntryKind). Stands l r) whole own) (all_stand o log rs stood (All-tail (IsBoard o log) r rs all) (right_of (rolled_upto r == length log) _ ends))
+
+pub stands_first : (list : List Mark) (is : IsTold list) → OpensStanding list → Stands (take (rolled_upto is.opened.start) is.opened.found) is.opened.start
+stands_first list is stands = subst OpensStanding is.told.begins stands
+
+module _ (log : List EntryKind) (r : Roll) (good : IsGoodShape r.shape) (first : r.from ≡ 0) (st : Stands log r) where
+  abbrev n : ℕ
+  n = r.rolled.groups
+
+  count : length log / r.shape.group ≡ r.rolled.groups
+  count = ap (λ (k : ℕ). k / r.shape.group) st.whole ∙ mul-div_cancel_left r.rolled.groups good.group.at_least
+
+  all_verdicts : r.rolled.verdicts ≡ verdicts_after r.shape log r.rolled.groups
+  all_verdicts = st.verdicts_are ∙ ap (λ (k : ℕ). drop k (verdicts_after r.shape log r.rolled.groups)) first
+
+  pub verdicts_of_all : r.rolled.verdicts ≡ verdicts r.shape log (length log)
+  verdicts_of_all = all_verdicts ∙ ap (λ (k : ℕ). verdicts_after r.shape log k) (sym count)
+
+  pub keeps_all : KeepsAll r
+  keeps_all = record { from_first = first; count = ap length all_verdicts ∙ verdict_count r.shape log r.rolled.groups (let w = st.whole in omega (arith, w)) }

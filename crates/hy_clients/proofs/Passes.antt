@@ -1,0 +1,89 @@
+-- Passes of a run, over a turn.
+use Rattle.std.proofs.Common.{◌≡◌, ℕ, suc, ◌+◌, ◌<◌, List, [], ◌∷◌, length, get_or, Some, refl, ap, sym, ◌∙◌, subst, arith}
+use Rattle.std.specs.Prelude.{Option, option_and_then, slice_get}
+use Rattle.std.proofs.lemmas.Option.{slice_get_read}
+use Rattle.std.specs.Option.{option_map_or}
+use Rattle.std.proofs.lemmas.List.{length-map}
+use mathlib.Core.List.{IsPrefix}
+use Rattle.hy_base.specs.Lists.{nth}
+use Rattle.hy_base.specs.Script.{Workload, IsProgram, IsClient as IsGoodClient}
+use Rattle.hy_base.specs.Shape.{IsWithin}
+use Rattle.hy_base.specs.declared.record.EntryKind.TheVariants.{Txn}
+use Rattle.hy_base.specs.declared.record.Intention.{Intention}
+use Rattle.hy_base.specs.declared.workload.Client.{Client}
+use Rattle.hy_base.specs.declared.workload.Home.{Home}
+use Rattle.hy_base.specs.declared.workload.Program.{Program}
+use Rattle.hy_hist.specs.Passes.{Lock, Known}
+use Rattle.hy_rules.specs.Moves.{Setting, home_server}
+use Rattle.hy_rules.specs.Runs.{setting_of as script_setting, program_of}
+use Rattle.hy_hub.specs.declared.mark.Mark.{Mark}
+use Rattle.hy_hub.specs.declared.mark.Mark.TheVariants.{Opened, Happened, Halted}
+use Rattle.hy_hub.specs.Trace.{setting_of}
+use Rattle.hy_hub.specs.Calls.{OneTurn, IsIdle, IsEntryOf, is_declared_client}
+use Rattle.hy_hub.proofs.Lists.{nth_map, nth_within, All-nth}
+use Rattle.hy_clients.specs.Passing.{OpensStanding, IsRunPass}
+use Rattle.hy_clients.specs.Serving.{IsClient}
+use Rattle.hy_clients.proofs.Turning.{grows}
+
+pub opens_more : (xs ys : List Mark) → IsPrefix xs ys → OpensStanding xs → OpensStanding ys
+opens_more [] ys p standing = absurd standing
+opens_more (Opened o ∷ xs) ys p standing = subst OpensStanding p.1 standing
+opens_more (Happened event added ∷ xs) ys p standing = absurd standing
+opens_more (Halted at ∷ xs) ys p standing = absurd standing
+
+-- a turn leaves a pass of the run one
+pub runs_on : (lock : Lock) (script : Workload) (all : ℕ) (old new : Known Mark) (does : List Mark → List Mark → Type 0) → OneTurn all old new does → setting_of new.seen ≡ setting_of old.seen → IsIdle lock new → IsRunPass lock script old
+    → IsRunPass lock script new
+runs_on lock script all old new does turn same idle run = record {
+  idle = idle;
+  told = turn.told;
+  setting_is = same ∙ run.setting_is;
+  standing = opens_more old.seen new.seen (grows 0 all old new does turn) run.standing;
+}
+
+-- ---- what is declared
+
+module _ (lock : Lock) (script : Workload) (pass : Known Mark) (run : IsRunPass lock script pass) where
+  pub client_declared : (client : ℕ) → IsWithin 1 (length script.clients) client → is_declared_client client pass.seen
+  client_declared client within =
+      let count : length (setting_of pass.seen).homes ≡ length script.clients = ap (λ (w : Setting). length w.homes) run.setting_is ∙ length-map script.clients (λ (c : Client). record { server = c.server; programs = length c.programs }) in
+      subst (λ n. IsWithin 1 n client) (sym count) within
+
+  pub server_declared : (server : ℕ) → IsWithin 1 script.servers server → IsWithin 1 (setting_of pass.seen).servers server
+  server_declared server within = subst (λ (w : Setting). IsWithin 1 w.servers server) (sym run.setting_is) within
+
+module _ (script : Workload) (client server : ℕ) (own : IsClient script client server) where
+  pub client_within : IsWithin 1 (length script.clients) client
+  client_within = nth_within script.clients client own.client own.is
+
+  pub client_low : IsWithin 1 128 client
+  client_low = let w = client_within in let few = own.few in record { at_least = w.at_least; at_most = let m = w.at_most in omega (arith, m, few) }
+
+  good_client : IsGoodClient script.servers own.client
+  good_client = All-nth (IsGoodClient script.servers) script.clients client own.client own.is own.script_is.clients
+
+  pub server_within : IsWithin 1 script.servers server
+  server_within = subst (λ n. IsWithin 1 script.servers n) own.server_is good_client.server
+
+  pub server_low : IsWithin 1 8 server
+  server_low = let w = server_within in let most = own.script_is.servers.at_most in record { at_least = w.at_least; at_most = let m = w.at_most in omega (arith, m, most) }
+
+  pub home_is : home_server (script_setting script) client ≡ server
+  home_is =
+      ap (λ (o : Option Home). option_map_or (λ home. home.server) o 0) (nth_map (λ (c : Client). record { server = c.server; programs = length c.programs }) script.clients client own.client own.is) ∙ own.server_is
+
+  pub program_good : (number : ℕ) (program : Program) → program_of script client number ≡ Some program → IsProgram program
+  program_good number program e =
+      let there : nth own.client.programs number ≡ Some program = sym (ap (option_and_then (λ (c : Client). nth c.programs number)) own.is) ∙ e in
+      All-nth IsProgram own.client.programs number program there good_client.programs
+
+  pub entry_is_own : (lock : Lock) (pass : Known Mark) (i : Intention) → IsRunPass lock script pass → i.client ≡ client → i.server ≡ server → IsEntryOf client pass.seen (Txn i)
+  entry_is_own lock pass i run c s = (c, s ∙ (sym home_is ∙ ap (λ (w : Setting). home_server w client) (sym run.setting_is)))
+
+-- the client's program at a place, counted from 0
+pub program_at : (script : Workload) (client : ℕ) (own : Client) (programs : List Program) (at : ℕ) (program : Program) → nth script.clients client ≡ Some own → programs ≡ own.programs → at < length programs → program ≡ get_or programs at program
+    → program_of script client (at + 1) ≡ Some program
+program_at script client own programs at program is same below here =
+    let next : suc at ≡ at + 1 = omega arith in
+    subst (λ n. program_of script client n ≡ Some program) next
+    (ap (option_and_then (λ (c : Client). nth c.programs (suc at))) is ∙ (ap (λ (l : List Program). slice_get l at) (sym same) ∙ slice_get_read programs (length programs) at program refl below here))

@@ -1,0 +1,208 @@
+-- How a pad and a publish bring a server to the log's end.
+use Rattle.std.proofs.Common.{◌≡◌, ℕ, zero, suc, ◌+◌, ◌-◌, ◌%◌, ◌≤◌, true, List, [], ◌∷◌, ◌++◌, length, take, drop, replicate, None, refl, ap, sym, ◌∙◌, subst, arith, length-append}
+use Rattle.std.specs.Prelude.{Result, Ok, Err, All, unwrap_or, ◌==◌}
+use Rattle.std.specs.List.{list_all}
+use Rattle.std.proofs.lemmas.List.{append-nil, length-drop, length-take-le, length-replicate, take_all}
+use Rattle.std.proofs.lemmas.Bool.Decides.{nat_tests}
+use Rattle.hy_base.specs.declared.layout.Shape.{Shape}
+use Rattle.hy_base.specs.declared.record.EntryKind.{EntryKind}
+use Rattle.hy_base.specs.declared.record.EntryKind.TheVariants.{Filler}
+use Rattle.hy_base.specs.declared.workload.Event.TheVariants.{Pad, Publish}
+use Rattle.hy_base.specs.Shape.{whole_groups}
+use Rattle.hy_base.specs.Lists.{nth, change_nth}
+use Rattle.hy_base.specs.Script.{Workload}
+use Rattle.hy_hist.specs.Passes.{Lock, Known}
+use Rattle.hy_rules.specs.Moves.{Setting, State, after, board_of}
+use Rattle.hy_rules.specs.Rolling.{Roll, rolled_upto, roll_on}
+use Rattle.hy_hub.specs.declared.mark.Opening.{Opening}
+use Rattle.hy_hub.specs.declared.mark.Mark.{Mark}
+use Rattle.hy_hub.specs.declared.mark.Mark.TheVariants.{Opened, Happened, Halted}
+use Rattle.hy_hub.specs.declared.mark.Look.{Look}
+use Rattle.hy_hub.specs.declared.mark.PadRefusal.{PadRefusal}
+use Rattle.hy_hub.specs.declared.mark.PadRefusal.TheVariants.{Memory as NoPlace, Even, Stopped, Device}
+use Rattle.hy_hub.specs.declared.mark.PublishRefusal.{PublishRefusal}
+use Rattle.hy_hub.specs.declared.mark.PublishRefusal.TheVariants.{Memory as NoRoom, Stale}
+use Rattle.hy_hub.specs.Trace.{setting, opening_state, setting_of, state_of}
+use Rattle.hy_hub.specs.Hub.{IsBoardAt, IsTold}
+use Rattle.hy_hub.specs.Calls.{OneTurn, PadDoes, LookDoes, PublishDoes, IsRollerOf, len_of, lack_of}
+use Rattle.hy_hub.specs.Laws.{IsPadded, IsPublished}
+use Rattle.hy_hub.proofs.Lists.{left_of, right_of, both}
+use Rattle.hy_hub.proofs.Told.{told_setting}
+use Rattle.hy_hub.proofs.Rolls.{rolled_on, filled_whole}
+use Rattle.hy_hub.proofs.Padding.{missing_is}
+use Rattle.hy_hub.proofs.Later.{goes_on_law, unarmed_led}
+use Rattle.hy_clients.specs.Passing.{IsRunPass}
+
+-- ---- what every list of a hub has
+
+pub unarmed_at : (list : List Mark) → IsTold list → (state_of list).armed ≡ None
+unarmed_at list is = let t = is.told in sym (ap (λ (s : State). s.armed) t.leads) ∙ unarmed_led (setting is.opened) (opening_state is.opened) t.past t.moves refl
+
+pub shape_at : (list : List Mark) (is : IsTold list) → (setting_of list).shape ≡ is.opened.shape
+shape_at list is = ap (λ (w : Setting). w.shape) (told_setting is.opened list _ _ is.told)
+
+group_at : (list : List Mark) → IsTold list → 1 ≤ (setting_of list).shape.group
+group_at list is = subst (λ (s : Shape). 1 ≤ s.group) (sym (shape_at list is)) is.good.group.at_least
+
+pub board_count : (list : List Mark) → IsTold list → length (state_of list).boards ≡ (setting_of list).servers
+board_count list is = is.servers ∙ sym (ap (λ (w : Setting). w.servers) (told_setting is.opened list _ _ is.told))
+
+low_board : (o : Opening) (len : ℕ) (bs : List ℕ) (c : ℕ) → All (IsBoardAt o len) bs → unwrap_or (nth bs c) 0 ≤ len
+low_board o len [] zero all = omega arith
+low_board o len [] (suc c) all = omega arith
+low_board o len (b ∷ bs) zero all = omega arith
+low_board o len (b ∷ bs) (suc zero) all = (all 0 b (omega arith)).1
+low_board o len (b ∷ bs) (suc (suc c)) all = low_board o len bs (suc c) (λ k d below. all (suc k) d (omega (arith, below)))
+
+pub board_low : (list : List Mark) (server : ℕ) → IsTold list → board_of (state_of list) server ≤ len_of list
+board_low list server is = low_board is.opened (len_of list) (state_of list).boards server is.boards
+
+pub nothing_more : (list added now : List Mark) → now ≡ list ++ added → added ≡ [] → now ≡ list
+nothing_more list added now is none = is ∙ (ap (λ l. list ++ l) none ∙ append-nil list)
+
+-- ---- pads
+
+-- the last group is whole after a pad
+pub padded : (padder : ℕ) (pad : Result ℕ PadRefusal) (list added now : List Mark) → IsTold list → now ≡ list ++ added → PadDoes padder pad list added → IsPadded pad → len_of now % (setting_of list).shape.group ≡ 0
+padded padder (Ok upto) list added now is e does held =
+    let n = lack_of list in
+    let g = (setting_of list).shape.group in
+    let fillers : List EntryKind = replicate n (Filler padder) in
+    let ends : state_of now ≡ after (setting_of list) (state_of list) (Pad padder) fillers = ap state_of (e ∙ ap (λ l. list ++ l) does.0) ∙ (goes_on_law list is).0 (Pad padder) fillers in
+    let calm = unarmed_at list is in
+    let log : (state_of now).log ≡ (state_of list).log ++ fillers = ap (λ (s : State). s.log) ends ∙ rw calm refl in
+    let pos = group_at list is in
+    let lack = missing_is (setting_of list) (len_of list) pos does.1 in
+    let size : len_of now ≡ len_of list + (g - len_of list % g) = omega (arith, ap length log, length-append (state_of list).log fillers, length-replicate n (Filler padder), lack) in
+    ap (λ m. m % g) size ∙ filled_whole g (len_of list) pos
+padded padder (Err NoPlace) list added now is e does held = absurd held
+padded padder (Err Even) list added now is e does held = ap (λ (l : List Mark). len_of l % (setting_of list).shape.group) (nothing_more list added now e does.0) ∙ does.1
+padded padder (Err (Stopped at)) list added now is e does held = absurd held
+padded padder (Err Device) list added now is e does held = absurd held
+
+-- ---- looks
+
+roller_at : (list : List Mark) (at : ℕ) (r : Roll) → IsRollerOf list at r → rolled_upto r ≡ at
+roller_at [] at r is = absurd is
+roller_at (Opened o ∷ marks) at r is = is.2
+roller_at (Happened event added ∷ marks) at r is = absurd is
+roller_at (Halted p ∷ marks) at r is = absurd is
+
+-- a look gives all entries past the board, where the last group is whole
+pub looked : (server : ℕ) (look : Look) (list : List Mark) → IsTold list → len_of list % (setting_of list).shape.group ≡ 0 → LookDoes server (Ok look) list [] → board_of (state_of list) server + length look.entries ≡ len_of list
+looked server look list is even does =
+    let b = board_of (state_of list) server in
+    let whole = whole_groups (setting_of list).shape (len_of list) in
+    let all : whole ≡ len_of list = omega (arith, even) in
+    let low = board_low list server is in
+    let size : length look.entries ≡ whole - b = ap length does.2 ∙ length-take-le (whole - b) (drop b (state_of list).log) (omega (arith, length-drop b (state_of list).log, all)) in
+    omega (arith, size, all, low)
+
+-- rolled over them, the roller of the board is at the log's end
+pub rolls_to_end : (server : ℕ) (look : Look) (list : List Mark) → IsTold list → len_of list % (setting_of list).shape.group ≡ 0 → LookDoes server (Ok look) list [] → length look.entries % look.roller.shape.group ≡ 0 → rolled_upto (roll_on look.roller look.entries) ≡ len_of list
+rolls_to_end server look list is even does whole =
+    let on = rolled_on look.roller look.entries whole in
+    let at = roller_at list (board_of (state_of list) server) look.roller does.1 in
+    let end = looked server look list is even does in
+    omega (arith, on, at, end)
+
+-- ---- publishes
+
+same_there : (bs : List ℕ) (n q : ℕ) → unwrap_or (nth bs n) 0 ≡ q → change_nth (λ _. q) bs n ≡ bs
+same_there [] n q is = refl
+same_there (b ∷ bs) zero q is = refl
+same_there (b ∷ bs) (suc zero) q is = ap (λ (x : ℕ). x ∷ bs) (sym is)
+same_there (b ∷ bs) (suc (suc n)) q is = ap (λ (l : List ℕ). b ∷ l) (same_there bs (suc n) q is)
+
+-- where the board is there already
+pub stays_there : (list : List Mark) (server q : ℕ) → board_of (state_of list) server ≡ q → (state_of list).boards ≡ change_nth (λ _. q) (state_of list).boards server
+stays_there list server q is = sym (same_there (state_of list).boards server q is)
+
+-- a publish changes the server's board alone
+pub published : (server : ℕ) (r : Roll) (publish : Result (Unit {0}) PublishRefusal) (list added now : List Mark) → IsTold list → rolled_upto r ≡ len_of list → now ≡ list ++ added → PublishDoes server r publish list added → IsPublished publish
+    → (state_of now).boards ≡ change_nth (λ _. len_of list) (state_of list).boards server
+published server r (Ok done) list added now is at e does held =
+    let ends = ap state_of (e ∙ ap (λ l. list ++ l) does.0) ∙ (goes_on_law list is).0 (Publish server (rolled_upto r)) [] in
+    ap (λ (s : State). s.boards) ends ∙ ap (λ (q : ℕ). change_nth (λ _. q) (state_of list).boards server) at
+published server r (Err NoRoom) list added now is at e does held = absurd held
+published server r (Err (Stale board)) list added now is at e does held =
+    let here = nothing_more list added now e does.0 in
+    let low = board_low list server is in
+    let there : board_of (state_of list) server ≡ len_of list = omega (arith, low, at, does.1, does.2) in
+    ap (λ (l : List Mark). (state_of l).boards) here ∙ stays_there list server (len_of list) there
+
+pub publish_adds_nothing : (server : ℕ) (r : Roll) (publish : Result (Unit {0}) PublishRefusal) (list added now : List Mark) → IsTold list → now ≡ list ++ added → PublishDoes server r publish list added → (state_of now).log ≡ (state_of list).log
+publish_adds_nothing server r (Ok done) list added now is e does = ap (λ (s : State). s.log) (ap state_of (e ∙ ap (λ l. list ++ l) does.0) ∙ (goes_on_law list is).0 (Publish server (rolled_upto r)) [])
+publish_adds_nothing server r (Err NoRoom) list added now is e does = ap (λ (l : List Mark). (state_of l).log) (nothing_more list added now e does)
+publish_adds_nothing server r (Err (Stale board)) list added now is e does = ap (λ (l : List Mark). (state_of l).log) (nothing_more list added now e does.0)
+
+-- ---- one server after another
+
+-- the first boards are at the end, and the next one comes there too
+pub next_ends : (len : ℕ) (bs : List ℕ) (k : ℕ) → list_all (λ board. board == len) (take k bs) ≡ true → list_all (λ board. board == len) (take (suc k) (change_nth (λ _. len) bs (suc k))) ≡ true
+next_ends len [] k all = refl
+next_ends len (b ∷ bs) zero all = let same : (len == len) ≡ true = grind (arith, nat_tests) in both (len == len) true same refl
+next_ends len (b ∷ bs) (suc k) all = both (b == len) _ (left_of (b == len) _ all) (next_ends len bs k (right_of (b == len) _ all))
+
+pub one_more_ends : (list later : List Mark) (k : ℕ) → (state_of later).log ≡ (state_of list).log → (state_of later).boards ≡ change_nth (λ _. len_of list) (state_of list).boards (k + 1)
+    → list_all (λ board. board == length (state_of list).log) (take k (state_of list).boards) ≡ true → list_all (λ board. board == length (state_of later).log) (take (k + 1) (state_of later).boards) ≡ true
+one_more_ends list later k log boards all =
+    let n = len_of list in
+    let next : suc k ≡ k + 1 = omega arith in
+    let there : list_all (λ board. board == n) (take (k + 1) (change_nth (λ _. n) (state_of list).boards (k + 1))) ≡ true =
+    subst (λ (m : ℕ). list_all (λ board. board == n) (take m (change_nth (λ _. n) (state_of list).boards m)) ≡ true) next (next_ends n (state_of list).boards k all) in
+    (λ i. list_all (λ board. board == length (log i)) (take (k + 1) (boards i))) ∙ there
+
+-- all boards are at the end
+pub all_end : (list : List Mark) (k : ℕ) → IsTold list → (setting_of list).servers ≤ k → list_all (λ board. board == length (state_of list).log) (take k (state_of list).boards) ≡ true → list_all (λ board. board == length (state_of list).log) (state_of list).boards ≡ true
+all_end list k is many all =
+    let count = board_count list is in
+    ap (list_all (λ board. board == length (state_of list).log)) (sym (take_all k (state_of list).boards (omega (arith, count, many)))) ∙ all
+
+-- ---- the turns of a pass that has all parts
+
+-- what a turn without others adds to what the pass had seen
+alone_adds : {all : ℕ} {old new : Known Mark} {does : List Mark → List Mark → Type 0} (turn : OneTurn all old new does) → old.parts ≡ all → new.seen ≡ old.seen ++ turn.added
+alone_adds {all} {old} {new} {does} turn alone = turn.seen ∙ ap (λ (l : List Mark). l ++ turn.added) (turn.alone alone)
+
+alone_does : {all : ℕ} {old new : Known Mark} {does : List Mark → List Mark → Type 0} (turn : OneTurn all old new does) → old.parts ≡ all → does old.seen turn.added
+alone_does {all} {old} {new} {does} turn alone = subst (λ (l : List Mark). does l turn.added) (turn.alone alone) turn.done
+
+-- a look shows the same list again
+pub looks_alone : {all : ℕ} (old new : Known Mark) (server : ℕ) (look : Look) → OneTurn all old new (LookDoes server (Ok look)) → old.parts ≡ all → new.seen ≡ old.seen
+looks_alone {all} old new server look turn alone = let does = alone_does turn alone in nothing_more old.seen turn.added new.seen (alone_adds turn alone) does.0
+
+-- the board before a look that gives nothing
+pub looks_at_end : {all : ℕ} (old new : Known Mark) (server : ℕ) (look : Look) → OneTurn all old new (LookDoes server (Ok look)) → old.parts ≡ all → IsTold old.seen → len_of old.seen % (setting_of old.seen).shape.group ≡ 0 → length look.entries ≡ 0 → board_of (state_of old.seen) server ≡ len_of old.seen
+looks_at_end {all} old new server look turn alone is even none =
+    let does = alone_does turn alone in
+    let end = looked server look old.seen is even (refl, does.1, does.2) in
+    omega (arith, end, none)
+
+-- What a look and a publish come to, where the last group is whole.
+pub record Publishes (server : ℕ) (list later : List Mark) (publish : Result (Unit {0}) PublishRefusal) : Type 0 where
+  pub log : (state_of later).log ≡ (state_of list).log
+  pub boards : IsPublished publish → (state_of later).boards ≡ change_nth (λ _. len_of list) (state_of list).boards server
+
+pub publishes : {all : ℕ} (first second third : Known Mark) (server : ℕ) (look : Look) (r : Roll) (publish : Result (Unit {0}) PublishRefusal)
+    → IsTold first.seen → len_of first.seen % (setting_of first.seen).shape.group ≡ 0 → first.parts ≡ all → second.parts ≡ first.parts
+    → OneTurn all first second (LookDoes server (Ok look)) → length look.entries % look.roller.shape.group ≡ 0 → r ≡ roll_on look.roller look.entries → OneTurn all second third (PublishDoes server r publish) → Publishes server first.seen third.seen publish
+publishes {all} first second third server look r publish is even alone same looks whole rolled puts =
+    let does = alone_does looks alone in
+    let here = looks_alone first second server look looks alone in
+    let still : second.parts ≡ all = same ∙ alone in
+    let upto : rolled_upto r ≡ len_of first.seen = ap rolled_upto rolled ∙ rolls_to_end server look first.seen is even (refl, does.1, does.2) whole in
+    let adds : third.seen ≡ first.seen ++ puts.added = alone_adds puts still ∙ ap (λ (l : List Mark). l ++ puts.added) here in
+    let done : PublishDoes server r publish first.seen puts.added = subst (λ (l : List Mark). PublishDoes server r publish l puts.added) here (alone_does puts still) in
+    record {
+      log = publish_adds_nothing server r publish first.seen puts.added third.seen is adds done;
+      boards = λ held. published server r publish first.seen puts.added third.seen is upto adds done held;
+    }
+
+-- the group of the script, by which the last group of a list is whole
+pub even_at : (lock : Lock) (script : Workload) (pass : Known Mark) → IsRunPass lock script pass → len_of pass.seen % script.shape.group ≡ 0 → len_of pass.seen % (setting_of pass.seen).shape.group ≡ 0
+even_at lock script pass run even = ap (λ (w : Setting). len_of pass.seen % w.shape.group) run.setting_is ∙ even
+
+-- a pad by a pass that has all parts
+pub pads_alone : {all : ℕ} (old new : Known Mark) (padder : ℕ) (pad : Result ℕ PadRefusal) → OneTurn all old new (PadDoes padder pad) → old.parts ≡ all → IsTold old.seen → IsPadded pad → len_of new.seen % (setting_of old.seen).shape.group ≡ 0
+pads_alone {all} old new padder pad turn alone is held = padded padder pad old.seen turn.added new.seen is (alone_adds turn alone) (alone_does turn alone) held

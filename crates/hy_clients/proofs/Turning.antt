@@ -1,0 +1,82 @@
+-- Turns of a pass, and which of them are a client's.
+use Rattle.std.proofs.Common.{◌≡◌, ℕ, ◌+◌, ◌-◌, ◌≤◌, true, false, List, [], ◌∷◌, ◌++◌, length, take, refl, ap, sym, ◌∙◌, arith, append_assoc, length-append}
+use Rattle.std.specs.Prelude.{filter, if◌then◌else◌}
+use Rattle.std.proofs.lemmas.List.{append-nil, take-append-le}
+use Rattle.std.proofs.lemmas.List.Elements.{filter-append}
+use Rattle.std.proofs.Math.Seq.{take-append_seam, take-append-add}
+use mathlib.Core.List.{IsPrefix}
+use Rattle.hy_hist.specs.Passes.{Known, made}
+use Rattle.hy_hub.specs.declared.mark.Mark.{Mark}
+use Rattle.hy_hub.specs.Calls.{OneTurn, placed}
+use Rattle.hy_hub.specs.Turns.{is_mark_of}
+use Rattle.hy_clients.specs.Passing.{own_turns, GoesOn, IsNextTurn}
+
+pub prefix_trans : (xs ys zs : List Mark) → IsPrefix xs ys → IsPrefix ys zs → IsPrefix xs zs
+prefix_trans xs ys zs p q = (p.0 ++ q.0, sym (append_assoc xs p.0 q.0) ∙ (ap (λ l. l ++ q.0) p.1 ∙ q.1))
+
+pub prefix_length : (xs ys : List Mark) → IsPrefix xs ys → length xs ≤ length ys
+prefix_length xs ys p = omega (arith, ap length p.1, length-append xs p.0)
+
+-- what a list begins with, so does the list before a later place
+pub prefix_take : (xs ys : List Mark) (n : ℕ) → IsPrefix xs ys → length xs ≤ n → IsPrefix xs (take n ys)
+prefix_take xs ys n p behind =
+    let sum : length xs + (n - length xs) ≡ n = omega (arith, behind) in
+    (take (n - length xs) p.0, sym (take-append-add xs p.0 (n - length xs)) ∙ (ap (λ k. take k (xs ++ p.0)) sum ∙ ap (take n) p.1))
+
+-- the list before a place stays the same as the list goes on
+pub take_same : (xs ys : List Mark) (n : ℕ) → IsPrefix xs ys → n ≤ length xs → take n ys ≡ take n xs
+take_same xs ys n p within = ap (take n) (sym p.1) ∙ take-append-le n xs p.0 within
+
+pub goes_same : (client : ℕ) (pass : Known Mark) → GoesOn client pass pass []
+goes_same client pass = record { grown = ([], append-nil pass.seen); parts = refl; own = sym (append-nil (own_turns client pass)) }
+
+pub goes_further : (client : ℕ) (a b c : Known Mark) (xs ys : List (ℕ × Mark)) → GoesOn client a b xs → GoesOn client b c ys → GoesOn client a c (xs ++ ys)
+goes_further client a b c xs ys g h = record {
+  grown = prefix_trans a.seen b.seen c.seen g.grown h.grown;
+  parts = h.parts ∙ g.parts;
+  own = h.own ∙ (ap (λ l. l ++ ys) g.own ∙ append_assoc (own_turns client a) xs ys);
+}
+
+-- a pass that took no turn of the client, and then went on so
+pub quiet_then : (client : ℕ) (a b c : Known Mark) (ys : List (ℕ × Mark)) → GoesOn client a b [] → GoesOn client b c ys → GoesOn client a c ys
+quiet_then client a b c ys g h = goes_further client a b c [] ys g h
+
+pub next_after : (client : ℕ) (a b c : Known Mark) (turn : ℕ × Mark) → GoesOn client a b [] → IsNextTurn client b c turn → IsNextTurn client a c turn
+next_after client a b c turn g next = record {
+  goes = goes_further client a b c [] (turn ∷ []) g next.goes;
+  behind = (let low = prefix_length a.seen b.seen g.grown in let behind = next.behind in omega (arith, low, behind));
+  within = next.within;
+}
+
+module _ (client all : ℕ) (old new : Known Mark) (does : List Mark → List Mark → Type 0) (turn : OneTurn all old new does) where
+  pub grows : IsPrefix old.seen new.seen
+  grows = (turn.grown.0 ++ turn.added, sym (append_assoc old.seen turn.grown.0 turn.added) ∙ (ap (λ l. l ++ turn.added) turn.grown.1 ∙ sym turn.seen))
+
+  pub before_is : take (length turn.before) new.seen ≡ turn.before
+  before_is = ap (take (length turn.before)) turn.seen ∙ take-append_seam turn.before turn.added
+
+  goes_by : new.parts ≡ old.parts → (own : List (ℕ × Mark)) → filter (λ t. is_mark_of client t.1) (placed (length turn.before) turn.added) ≡ own → GoesOn client old new own
+  goes_by parts own e = record {
+    grown = grows;
+    parts = parts;
+    own =
+        ap (filter (λ (t : ℕ × Mark). is_mark_of client t.1)) turn.makes
+        ∙ (filter-append (λ (t : ℕ × Mark). is_mark_of client t.1) (made old) (placed (length turn.before) turn.added) ∙ ap (λ l. own_turns client old ++ l) e);
+  }
+
+  -- it added nothing
+  pub goes_none : new.parts ≡ old.parts → turn.added ≡ [] → GoesOn client old new []
+  goes_none parts e = goes_by parts [] (ap (λ l. filter (λ (t : ℕ × Mark). is_mark_of client t.1) (placed (length turn.before) l)) e)
+
+  -- it added what isn't the client's
+  pub goes_other : new.parts ≡ old.parts → (mark : Mark) → turn.added ≡ mark ∷ [] → is_mark_of client mark ≡ false → GoesOn client old new []
+  goes_other parts mark e other =
+      goes_by parts [] (ap (λ l. filter (λ (t : ℕ × Mark). is_mark_of client t.1) (placed (length turn.before) l)) e ∙ ap (λ b. if b then (length turn.before, mark) ∷ [] else []) other)
+
+  -- it added a mark of the client
+  pub goes_own : new.parts ≡ old.parts → (mark : Mark) → turn.added ≡ mark ∷ [] → is_mark_of client mark ≡ true → IsNextTurn client old new (length turn.before, mark)
+  goes_own parts mark e own = record {
+    goes = goes_by parts ((length turn.before, mark) ∷ []) (ap (λ l. filter (λ (t : ℕ × Mark). is_mark_of client t.1) (placed (length turn.before) l)) e ∙ ap (λ b. if b then (length turn.before, mark) ∷ [] else []) own);
+    behind = prefix_length old.seen turn.before turn.grown;
+    within = omega (arith, ap length turn.seen, length-append turn.before turn.added, ap length e);
+  }

@@ -1,0 +1,104 @@
+-- A client's turns along the list, one after another.
+use Rattle.std.proofs.Common.{◌≡◌, ℕ, suc, ◌≤◌, Bool, true, false, cond, List, [], ◌∷◌, ◌++◌, length, take, refl, ap, sym, ◌∙◌, subst, arith, append_assoc, length-append}
+use Rattle.std.specs.Prelude.{filter, Some, None, ⊤}
+use Rattle.std.proofs.Math.Seq.{take-append_seam}
+use Rattle.std.proofs.lemmas.List.Elements.{filter-append}
+use mathlib.Core.List.{IsPrefix}
+use Rattle.hy_base.specs.declared.record.EntryKind.{EntryKind}
+use Rattle.hy_base.specs.declared.workload.Event.{Event}
+use Rattle.hy_base.specs.declared.workload.Session.{Session}
+use Rattle.hy_base.specs.declared.workload.Phase.{Phase}
+use Rattle.hy_base.specs.declared.workload.Phase.TheVariants.{Idle, Begun}
+use Rattle.hy_base.specs.Lists.{nth}
+use Rattle.hy_base.specs.Script.{Workload}
+use Rattle.hy_rules.specs.Moves.{Setting, State, Moves, opening, after}
+use Rattle.hy_rules.specs.Runs.{setting_of as script_setting, ended_by}
+use Rattle.hy_hub.specs.declared.mark.Opening.{Opening}
+use Rattle.hy_hub.specs.declared.mark.Mark.{Mark}
+use Rattle.hy_hub.specs.declared.mark.Mark.TheVariants.{Opened, Happened, Halted}
+use Rattle.hy_hub.specs.Trace.{is_stop, setting, led, AreMoves, state_of, setting_of}
+use Rattle.hy_hub.specs.Turns.{is_event_of}
+use Rattle.hy_hub.proofs.Told.{led_event, led_halt}
+use Rattle.hy_clients.specs.declared.answered.Answered.{Answered}
+use Rattle.hy_clients.proofs.OwnTurns.{own_from}
+use Rattle.hy_clients.proofs.Sessions.{others_keep}
+use Rattle.hy_clients.proofs.Steady.{IsSteady, stays_steady, log_after, log_led}
+use Rattle.hy_clients.proofs.Progress.{Fits, IsAt, Goes, ends_of}
+use Rattle.hy_clients.proofs.Answering.{AreAnswered}
+use Rattle.hy_clients.proofs.Endings.{endings, is_end_of, others_end, own_ends}
+use Rattle.hy_clients.proofs.Fitting.{own_turn}
+
+-- each event of the client fits the script, from this state on
+abbrev pub AreFitOf : Workload → ℕ → State → List Mark → Type 0
+AreFitOf script c s [] = ⊤
+AreFitOf script c s (Opened o ∷ marks) = AreFitOf script c s marks
+AreFitOf script c s (Happened event added ∷ marks) = (is_event_of c event ≡ true → Fits script s event added) × AreFitOf script c (after (script_setting script) s event added) marks
+AreFitOf script c s (Halted at ∷ marks) = AreFitOf script c s marks
+
+-- what the walk comes to
+pub record IsWalked (script : Workload) (c : ℕ) (s : State) (marks : List Mark) (x : Session) (told : List Answered) : Type 0 where
+  pub fits : AreFitOf script c s marks
+  pub ended : filter (is_end_of c) (endings script s marks) ≡ ends_of c x.next told
+  pub answers : AreAnswered script (led (script_setting script) s marks).log c x.next told
+
+none_left : (script : Workload) (c number : ℕ) (list : List Mark) (p : Phase) (told : List Answered) → Goes script c number list p [] told → told ≡ []
+none_left script c number list Idle [] goes = refl
+none_left script c number list Idle (t ∷ told) goes = absurd goes
+none_left script c number list (Begun snap) told goes = absurd goes
+
+longer : (s : State) (w : Setting) (event : Event) (added : List EntryKind) (snap : ℕ) → s.armed ≡ None → snap ≤ length s.log → snap ≤ length (after w s event added).log
+longer s w event added snap calm within = let p = log_after w s event added calm in omega (arith, within, ap length p.1, length-append s.log p.0)
+
+-- one mark, and the walk behind it
+module _ (script : Workload) (c : ℕ) (list : List Mark) (k : ℕ) (s : State) (event : Event) (added : List EntryKind) (marks : List Mark) (x : Session) (told : List Answered)
+    (here : IsAt script list k s) (steady : IsSteady s) (move : Moves (script_setting script) s event added (after (script_setting script) s event added)) (n : is_stop event ≡ false)
+    (at : nth s.sessions c ≡ Some x) (within : (snap : ℕ) → x.phase ≡ Begun snap → snap ≤ length s.log) (grows : IsPrefix s.log (led (script_setting script) (after (script_setting script) s event added) marks).log)
+    (later : (y : Session) (left : List Answered) → nth (after (script_setting script) s event added).sessions c ≡ Some y → ((snap : ℕ) → y.phase ≡ Begun snap → snap ≤ length (after (script_setting script) s event added).log)
+    → Goes script c y.next list y.phase (own_from c (suc k) marks) left → IsWalked script c (after (script_setting script) s event added) marks y left) where
+  one_mark : (b : Bool) → is_event_of c event ≡ b → Goes script c x.next list x.phase (cond b ((k, Happened event added) ∷ own_from c (suc k) marks) (own_from c (suc k) marks)) told → IsWalked script c s (Happened event added ∷ marks) x told
+  one_mark false other goes =
+      let w = script_setting script in
+      let rest = later x told (others_keep w s event added c steady.calm n other ∙ at) (λ snap e. longer s w event added snap steady.calm (within snap e)) goes in
+      record {
+        fits = (λ own. absurd (cc), rest.fits);
+        ended = filter-append (is_end_of c) (ended_by s event) (endings script (after w s event added) marks) ∙ ((λ i. others_end s event c steady.calm n other i ++ rest.ended i));
+        answers = rest.answers;
+      }
+  one_mark true own goes =
+      let w = script_setting script in
+      let t = own_turn script c list k s added x (own_from c (suc k) marks) told here steady at within event own move goes in
+      let rest = later t.next t.left t.at (λ snap e. longer s w event added snap steady.calm (t.within snap e)) t.goes in
+      record {
+        fits = (λ own. t.fits, rest.fits);
+        ended = filter-append (is_end_of c) (ended_by s event) (endings script (after w s event added) marks) ∙ ((λ i. own_ends s event c steady.calm own i ++ rest.ended i) ∙ t.ends);
+        answers = t.answers (led w (after w s event added) marks).log grows rest.answers;
+      }
+
+is_at : (script : Workload) (o : Opening) (list front rest : List Mark) (k : ℕ) (s : State) → setting o ≡ script_setting script → list ≡ Opened o ∷ (front ++ rest) → suc (length front) ≡ k → led (setting o) (opening (setting o) o.found) front ≡ s → IsAt script list k s
+is_at script o list front rest k s w is place leads =
+    let front_is : take k list ≡ Opened o ∷ front = ap (λ n. take n list) (sym place) ∙ (ap (take (suc (length front))) is ∙ ap (λ (l : List Mark). Opened o ∷ l) (take-append_seam front rest)) in record {
+      state = subst (λ (l : List Mark). state_of l ≡ s) (sym front_is) leads;
+      setting = subst (λ (l : List Mark). setting_of l ≡ script_setting script) (sym front_is) w;
+    }
+
+pub walk : (script : Workload) (c : ℕ) (o : Opening) (list front marks : List Mark) (k : ℕ) (s : State) (x : Session) (told : List Answered) → setting o ≡ script_setting script
+    → list ≡ Opened o ∷ (front ++ marks) → suc (length front) ≡ k → led (setting o) (opening (setting o) o.found) front ≡ s → AreMoves (script_setting script) s marks → IsSteady s → nth s.sessions c ≡ Some x
+    → ((snap : ℕ) → x.phase ≡ Begun snap → snap ≤ length s.log) → Goes script c x.next list x.phase (own_from c k marks) told → IsWalked script c s marks x told
+walk script c o list front [] k s x told w is place leads all steady at within goes =
+    let none : told ≡ [] = none_left script c x.next list x.phase told goes in record {
+      fits = tt;
+      ended = ap (ends_of c x.next) (sym none);
+      answers = subst (λ (l : List Answered). AreAnswered script s.log c x.next l) (sym none) tt;
+    }
+walk script c o list front (Opened o' ∷ marks) k s x told w is place leads all steady at within goes = absurd all
+walk script c o list front (Halted h ∷ marks) k s x told w is place leads all steady at within goes =
+    let rest = walk script c o list (front ++ Halted h ∷ []) marks (suc k) s x told w (is ∙ ap (λ (l : List Mark). Opened o ∷ l) (sym (append_assoc front (Halted h ∷ []) marks))) (omega (arith, place, length-append front (Halted h ∷ [])))
+    (led_halt (setting o) (opening (setting o) o.found) front h ∙ leads) all steady at within goes in
+    record { fits = rest.fits; ended = rest.ended; answers = rest.answers }
+walk script c o list front (Happened event added ∷ marks) k s x told w is place leads all steady at within goes =
+    let next : State = after (script_setting script) s event added in
+    let leads_on : led (setting o) (opening (setting o) o.found) (front ++ Happened event added ∷ []) ≡ next = led_event (setting o) (opening (setting o) o.found) front event added ∙ (λ i. after (w i) (leads i) event added) in
+    one_mark script c list k s event added marks x told (is_at script o list front (Happened event added ∷ marks) k s w is place leads) steady all.0 all.1 at within (log_led (script_setting script) s (Happened event added ∷ marks) all steady.calm)
+    (λ y left at' within' goes'. walk script c o list (front ++ Happened event added ∷ []) marks (suc k) next y left w (is ∙ ap (λ (l : List Mark). Opened o ∷ l) (sym (append_assoc front (Happened event added ∷ []) marks)))
+    (omega (arith, place, length-append front (Happened event added ∷ []))) leads_on all.2 (stays_steady (script_setting script) s event added all.0.may_happen all.1 steady) at' within' goes')
+    (is_event_of c event) refl goes

@@ -1,0 +1,57 @@
+-- Passes of a run, and how they go on.
+use Rattle.std.specs.Prelude.{◌≡◌, ℕ, ◌<◌, ◌≤◌, List, [], ◌∷◌, ◌++◌, length, take, filter}
+use mathlib.Core.List.{IsPrefix}
+use Rattle.hy_hist.specs.Passes.{Lock, Known, made}
+use Rattle.hy_base.specs.declared.record.EntryKind.{EntryKind}
+use Rattle.hy_base.specs.Script.{Workload}
+use Rattle.hy_rules.specs.Rolling.{rolled_upto, Stands}
+use Rattle.hy_rules.specs.Runs.{setting_of as script_setting}
+use Rattle.hy_hub.specs.declared.mark.Mark.{Mark}
+use Rattle.hy_hub.specs.declared.mark.Mark.TheVariants.{Opened, Happened, Halted}
+use Rattle.hy_hub.specs.Trace.{setting_of}
+use Rattle.hy_hub.specs.Hub.{IsTold}
+use Rattle.hy_hub.specs.Calls.{IsIdle}
+use Rattle.hy_hub.specs.Turns.{is_mark_of}
+
+-- the roller of the opening stands for the entries that it has rolled
+abbrev pub OpensStanding : List Mark → Type 0
+OpensStanding [] = ⊥
+OpensStanding (Opened o ∷ marks) = Stands (take (rolled_upto o.start) o.found) o.start
+OpensStanding (Happened event added ∷ marks) = ⊥
+OpensStanding (Halted at ∷ marks) = ⊥
+
+-- the log that the hub was made on, and the device's count of faults then
+abbrev pub opened_log : List Mark → List EntryKind
+opened_log [] = []
+opened_log (Opened o ∷ marks) = o.found
+opened_log (Happened event added ∷ marks) = []
+opened_log (Halted at ∷ marks) = []
+
+abbrev pub opened_faults : List Mark → ℕ
+opened_faults [] = 0
+opened_faults (Opened o ∷ marks) = o.faults
+opened_faults (Happened event added ∷ marks) = 0
+opened_faults (Halted at ∷ marks) = 0
+
+-- A pass of a hub that runs a script, between two calls.
+pub record IsRunPass (lock : Lock) (script : Workload) (pass : Known Mark) : Type 0 where
+  pub idle : IsIdle lock pass
+  pub told : IsTold pass.seen
+  pub setting_is : setting_of pass.seen ≡ script_setting script
+  pub standing : OpensStanding pass.seen
+
+-- the turns of a client that the pass took, with their places
+abbrev pub own_turns : ℕ → Known Mark → List (ℕ × Mark)
+own_turns client pass = filter (λ turn. is_mark_of client turn.1) (made pass)
+
+-- A pass went on, and took these turns of a client besides.
+pub record GoesOn (client : ℕ) (old new : Known Mark) (turns : List (ℕ × Mark)) : Type 0 where
+  pub grown : IsPrefix old.seen new.seen
+  pub parts : new.parts ≡ old.parts
+  pub own : own_turns client new ≡ own_turns client old ++ turns
+
+-- The pass took one turn of a client, behind all that it had seen.
+pub record IsNextTurn (client : ℕ) (old new : Known Mark) (turn : ℕ × Mark) : Type 0 where
+  pub goes : GoesOn client old new (turn ∷ [])
+  pub behind : length old.seen ≤ turn.0
+  pub within : turn.0 < length new.seen

@@ -1,0 +1,200 @@
+//! All clients of a script on a log.
+ghost use Rattle.std.specs.Prelude.{◌≡◌, ◌≢◌, ◌≤◌, ◌==◌, length, map, take, true, None, IfOk, IfErr};
+ghost use Rattle.std.specs.List.{list_all};
+ghost use mathlib.Core.List.{IsPrefix};
+ghost use Rattle.hy_base.specs.Faults.{Rose};
+ghost use Rattle.hy_base.specs.Shape.{IsWithin};
+ghost use Rattle.hy_rules.specs.Rolling.{rolled_upto, Stands};
+ghost use Rattle.hy_rules.specs.Runs.{setting_of as script_setting};
+ghost use Rattle.hy_hub.specs.Calls.{events_of};
+ghost use Rattle.hy_hub.specs.Close.{IsClosed};
+ghost use Rattle.hy_hub.specs.Outset.{IsOutset};
+ghost use Rattle.hy_hub.specs.Trace.{setting_of, state_of};
+ghost use Rattle.hy_clients.specs.Passing.{IsRunPass, OpensStanding, opened_log, opened_faults};
+ghost use Rattle.hy_clients.specs.Served.{AllServed};
+ghost use Rattle.hy_clients.specs.Finished.{IsCutShort, IsFinished};
+
+use crate::answered::Answered;
+use crate::closing::bring_to_end;
+use crate::homes::homes_of;
+use crate::laws::{replies_are_told, served_lists_are_runs};
+use crate::replies::all_replies;
+use crate::serving::Cut;
+use crate::task::serve_all;
+use hy_base::{Entry, Items, Replies, Script, Shared};
+use hy_disk::Disk;
+use hy_hist::Pass;
+use hy_hub::{Closed, Contents, Events, Hub};
+use hy_log::PageLog;
+use hy_pipe::{Gate, Roller};
+use std::alloc::Global;
+use std::sync::Wait;
+use std::thread::Threads;
+
+/// A finished run: the log, the events, the replies to each client, and each server's roller.
+#[derive(Drop)]
+pub struct Run<D: Disk> {
+    pub log: PageLog<D>,
+    pub events: Events,
+    pub replies: Items<Replies>,
+    pub boards: Items<Roller>,
+}
+
+/// Why a run isn't finished.
+#[derive(Clone, Copy, Debug, PartialEq, Eq)]
+pub enum Cause {
+    /// The log's device failed. The log is stopped.
+    Device,
+    /// Memory was wanting.
+    Memory,
+}
+
+/// A run that was cut short, and what is left of the log.
+#[derive(Drop)]
+pub struct Broken<D: Disk> {
+    pub log: PageLog<D>,
+    pub cause: Cause,
+}
+
+// Why it was, by the log.
+fn break_off<D: Disk>(log: PageLog<D>) -> Broken<D>
+    ensures log { result.log ≡ log }
+    ensures cause { result.cause ≡ Cause.Device → log.stopped ≢ None }
+{
+    let cause = match log.stopped() {
+        Some(_) => Cause::Device,
+        None => Cause::Memory,
+    };
+    Broken { log, cause }
+}
+
+// What is told of a run that was closed at its end, where the log runs.
+fn finished<D: Disk>(
+    alloc: Global,
+    script: &Script,
+    closed: Closed<D>,
+    events: Events,
+    told: Vec<Vec<Answered>>,
+) -> Result<Run<D>, Broken<D>>
+    requires closed { IsClosed D.tells D.content (D.faults_of closed.log.disk) closed.marks.items closed.log closed.entries.items closed.rollers.items }
+    requires setting { setting_of closed.marks.items ≡ script_setting script.now }
+    requires standing { OpensStanding closed.marks.items }
+    requires ends { list_all (λ board. board == length (state_of closed.marks.items).log) (state_of closed.marks.items).boards ≡ true }
+    requires served { AllServed script.now closed.marks.items 1 script.now.clients (map (λ t. t.items) told.items) }
+    requires events { events ≡ events_of closed.marks.items }
+    ensures run { IfOk result (λ run. (run.log ≡ closed.log) × IsFinished D.tells script.now (opened_log closed.marks.items) run.events run.replies run.boards run.log) }
+    ensures log { IfErr result (λ broken. broken.log ≡ closed.log) }
+    ensures cause { IfErr result (λ broken. broken.cause ≡ Cause.Device → closed.log.stopped ≢ None) }
+{
+    served_lists_are_runs();
+    replies_are_told();
+    let _ = script.shape();
+    let Closed {
+        log,
+        entries: _,
+        rollers,
+        marks: _,
+    } = closed;
+    if log.stopped().is_some() {
+        return Err(break_off(log));
+    }
+    let first = &rollers[0];
+    let _ = first.base_tree();
+    match all_replies(alloc, first, told) {
+        Ok(replies) => Ok(Run {
+            log,
+            events,
+            replies,
+            boards: Items::from_vec(rollers),
+        }),
+        Err(_) => Err(break_off(log)),
+    }
+}
+
+// Serves all clients, and then brings the servers to the log's end.
+fn serve_to_end<D: Disk + Send, R: Threads + Wait + Sync, G: Gate + Sync>(
+    rt: &R,
+    alloc: Global,
+    script: &Script,
+    hub: &Hub<D>,
+    pass: &mut Pass<Contents<D>>,
+    threads: usize,
+    gate: &G,
+) -> Result<Vec<Vec<Answered>>, Cut>
+    requires pass { IsRunPass hub.now script.now pass.old }
+    requires parts { (hub.now.parts ≡ 129) × (pass.old.parts ≡ 129) }
+    requires threads { IsWithin 1 16 threads }
+    ensures pass { IsRunPass hub.now script.now pass.new }
+    ensures parts { pass.new.parts ≡ 129 }
+    ensures grown { IsPrefix pass.old.seen pass.new.seen }
+    ensures served { IfOk result (λ told. AllServed script.now pass.new.seen 1 script.now.clients (map (λ t. t.items) told.items)) }
+    ensures ends { IfOk result (λ _. list_all (λ board. board == length (state_of pass.new.seen).log) (state_of pass.new.seen).boards ≡ true) }
+{
+    let told = serve_all(rt, alloc, script, hub, pass, threads, gate)?;
+    bring_to_end(rt, alloc, script, hub, pass, threads, gate)?;
+    Ok(told)
+}
+
+// Serves all clients over a hub that was just made, brings its servers to the log's end, and closes it.
+fn run_on<D: Disk + Send, R: Threads + Wait + Sync, G: Gate + Sync>(
+    rt: &R,
+    alloc: Global,
+    script: &Script,
+    hub: Hub<D>,
+    mut pass: Pass<Contents<D>>,
+    threads: usize,
+    gate: &G,
+) -> Result<Run<D>, Broken<D>>
+    requires pass { IsRunPass hub script.now pass }
+    requires parts { (hub.parts ≡ 129) × (pass.parts ≡ 129) }
+    requires threads { IsWithin 1 16 threads }
+    ensures run { IfOk result (λ run. IsFinished D.tells script.now (opened_log pass.seen) run.events run.replies run.boards run.log) }
+    ensures cut { IfErr result (λ broken. IsCutShort D.tells D.content script.now.shape (opened_log pass.seen) broken.log) }
+    ensures cause { IfErr result (λ broken. broken.cause ≡ Cause.Device → Rose (opened_faults pass.seen) (D.faults_of broken.log.disk)) }
+    ensures stopped { IfErr result (λ broken. broken.log.stopped ≢ None → Rose (opened_faults pass.seen) (D.faults_of broken.log.disk)) }
+    ensures later { IfOk result (λ run. opened_faults pass.seen ≤ D.faults_of run.log.disk) }
+    ensures later_cut { IfErr result (λ broken. opened_faults pass.seen ≤ D.faults_of broken.log.disk) }
+{
+    let told = serve_to_end(rt, alloc, script, &hub, &mut pass, threads, gate);
+    let events = hub.trace(rt, &mut pass);
+    let closed = hub.close(pass);
+    match (told, events) {
+        (Ok(told), Ok(events)) => finished(alloc, script, closed, events, told),
+        _ => Err(break_off(closed.log)),
+    }
+}
+
+/// Runs all programs of all clients over a log, each client on a thread of its own, and brings each server to the log's end.
+/// Rolls take up to 16 threads more. As a client's task starts it calls the gate.
+///
+/// `Device`: the log's device failed, and the log is stopped. `Memory`: memory was wanting. Either hands back the log, which
+/// has all that was found and appended.
+pub fn run_clients<D: Disk + Send, R: Threads + Wait + Sync, G: Gate + Sync>(
+    rt: &R,
+    alloc: Global,
+    script: &Script,
+    log: PageLog<D>,
+    entries: Vec<Shared<Entry>>,
+    start: Roller,
+    threads: usize,
+    gate: &G,
+) -> Result<Run<D>, Broken<D>>
+    requires outset { IsOutset D.tells log entries.items start script.now.servers (script_setting script.now).homes }
+    requires shape { start.shape ≡ script.now.shape }
+    requires stands { Stands (take (rolled_upto start) entries.items) start }
+    requires threads { IsWithin 1 16 threads }
+    ensures run { IfOk result (λ run. IsFinished D.tells script.now entries.items run.events run.replies run.boards run.log) }
+    ensures cut { IfErr result (λ broken. IsCutShort D.tells D.content script.now.shape entries.items broken.log) }
+    ensures cause { IfErr result (λ broken. broken.cause ≡ Cause.Device → Rose (D.faults_of log.disk) (D.faults_of broken.log.disk)) }
+    ensures stopped { IfErr result (λ broken. broken.log.stopped ≢ None → Rose (D.faults_of log.disk) (D.faults_of broken.log.disk)) }
+    ensures later { IfOk result (λ run. D.faults_of log.disk ≤ D.faults_of run.log.disk) }
+    ensures later_cut { IfErr result (λ broken. D.faults_of log.disk ≤ D.faults_of broken.log.disk) }
+{
+    let Ok(homes) = homes_of(alloc, script) else {
+        return Err(break_off(log));
+    };
+    match Hub::new(alloc, log, entries, start, script.servers(), &homes) {
+        Err(log) => Err(break_off(log)),
+        Ok((hub, pass)) => run_on(rt, alloc, script, hub, pass, threads, gate),
+    }
+}

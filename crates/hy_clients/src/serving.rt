@@ -1,0 +1,426 @@
+//! A client's programs, one after another: each is begun, run on its snapshot, and ended.
+ghost use Rattle.std.specs.Prelude.{◌≡◌, ◌+◌, ◌≤◌, ℕ, [], length, Some, None, IfOk, OnOk, OnErr};
+ghost use Rattle.hy_base.specs.Lists.{nth};
+ghost use Rattle.hy_base.specs.Shape.{IsWithin};
+ghost use Rattle.hy_base.specs.declared.workload.Client.{Client};
+ghost use Rattle.hy_rules.specs.Runs.{program_of};
+ghost use Rattle.hy_rules.specs.Rolling.{rolled_upto};
+ghost use Rattle.hy_hub.specs.Calls.{IsEntryOf, IsRollable, IsRollerOf, len_of};
+ghost use Rattle.hy_clients.specs.Passing.{IsRunPass, GoesOn, own_turns};
+ghost use Rattle.hy_clients.specs.Programs.{AreServed};
+ghost use Rattle.hy_clients.specs.Serving.{AreLive, Begins, Ends, EndsBy, EndsReading, IsClient, IsOwnEnd, Serves, Takes};
+
+use crate::answered::{Answered, End};
+use hy_base::{Client, Entry, Program, Script};
+use hy_disk::Disk;
+use hy_exec::{Executed, Finished, run_program};
+use hy_hist::Pass;
+use hy_hub::{
+    AppendRefusal, BeginRefusal, Begun, Contents, EndRefusal, Hub, Look, PadRefusal, PublishRefusal,
+};
+use hy_pipe::{Gate, Roller};
+use std::alloc::{AllocError, AllocFailed, Global};
+use std::sync::Wait;
+use std::thread::Threads;
+
+/// The clients can't go on: the log is stopped, or memory was wanting.
+#[derive(Clone, Copy, Debug, PartialEq, Eq)]
+pub(crate) struct Cut;
+
+impl From<AllocError> for Cut {
+    fn from(_error: AllocError) -> Cut {
+        Cut
+    }
+}
+
+impl<T: Drop> From<AllocFailed<T>> for Cut {
+    fn from(_error: AllocFailed<T>) -> Cut {
+        Cut
+    }
+}
+
+// Completes the last group, where it isn't whole.
+fn complete_group<D: Disk, R: Wait>(
+    rt: &R,
+    script: &Script,
+    hub: &Hub<D>,
+    pass: &mut Pass<Contents<D>>,
+    server: u8,
+) -> Result<(), Cut>
+    requires pass { IsRunPass hub.now script.now pass.old }
+    requires server { IsWithin 1 script.now.servers server }
+    ensures pass { IsRunPass hub.now script.now pass.new }
+    ensures goes { (client : ℕ) → GoesOn client pass.old pass.new [] }
+{
+    let _ = script;
+    match hub.pad(rt, pass, server) {
+        Ok(_) => Ok(()),
+        Err(PadRefusal::Even) => Ok(()),
+        Err(PadRefusal::Memory) => Err(Cut),
+        Err(PadRefusal::Stopped { .. }) => Err(Cut),
+        Err(PadRefusal::Device) => Err(Cut),
+    }
+}
+
+// The roller of the server's board, and the entries past it that make whole groups.
+fn look_on<D: Disk, R: Wait>(
+    rt: &R,
+    script: &Script,
+    hub: &Hub<D>,
+    pass: &mut Pass<Contents<D>>,
+    server: u8,
+) -> Result<Look, AllocError>
+    requires pass { IsRunPass hub.now script.now pass.old }
+    requires server { IsWithin 1 script.now.servers server }
+    ensures pass { IsRunPass hub.now script.now pass.new }
+    ensures goes { (client : ℕ) → GoesOn client pass.old pass.new [] }
+    ensures rolls { IfOk result (λ look. IsRollable pass.new.seen look) }
+{
+    let _ = script;
+    hub.look(rt, pass, server)
+}
+
+// Puts the server's board on to a roller's position, where it isn't that far.
+fn publish<D: Disk, R: Wait>(
+    rt: &R,
+    script: &Script,
+    hub: &Hub<D>,
+    pass: &mut Pass<Contents<D>>,
+    server: u8,
+    roller: Roller,
+) -> Result<(), Cut>
+    requires pass { IsRunPass hub.now script.now pass.old }
+    requires server { IsWithin 1 script.now.servers server }
+    requires within { rolled_upto roller ≤ len_of pass.old.seen }
+    requires stands { IsRollerOf pass.old.seen (rolled_upto roller) roller }
+    ensures pass { IsRunPass hub.now script.now pass.new }
+    ensures goes { (client : ℕ) → GoesOn client pass.old pass.new [] }
+{
+    let _ = script;
+    match hub.publish(rt, pass, server, roller) {
+        Ok(()) => Ok(()),
+        Err(PublishRefusal::Stale { .. }) => Ok(()),
+        Err(PublishRefusal::Memory) => Err(Cut),
+    }
+}
+
+// A server completes the last group, and publishes the log up to its end.
+pub(crate) fn catch_up<D: Disk, R: Threads + Wait + Sync, G: Gate + Sync>(
+    rt: &R,
+    alloc: Global,
+    script: &Script,
+    hub: &Hub<D>,
+    pass: &mut Pass<Contents<D>>,
+    server: u8,
+    threads: usize,
+    gate: &G,
+) -> Result<(), Cut>
+    requires pass { IsRunPass hub.now script.now pass.old }
+    requires server { IsWithin 1 script.now.servers server }
+    requires threads { IsWithin 1 16 threads }
+    ensures pass { IsRunPass hub.now script.now pass.new }
+    ensures goes { (client : ℕ) → GoesOn client pass.old pass.new [] }
+{
+    complete_group(rt, script, hub, pass, server)?;
+    let look = look_on(rt, script, hub, pass, server)?;
+    let entries = look.entries.as_slice();
+    let rolled = look.roller.roll(rt, alloc, entries, threads, gate)?;
+    publish(rt, script, hub, pass, server, rolled)
+}
+
+// Begins the client's next program, where it may begin.
+fn begin_once<D: Disk, R: Wait>(
+    rt: &R,
+    script: &Script,
+    hub: &Hub<D>,
+    pass: &mut Pass<Contents<D>>,
+    client: u8,
+) -> Result<Begun, BeginRefusal>
+    requires pass { IsRunPass hub.now script.now pass.old }
+    requires client { IsWithin 1 (length script.now.clients) client }
+    ensures pass { IsRunPass hub.now script.now pass.new }
+    ensures parts { pass.new.parts ≡ pass.old.parts }
+    ensures begun { IfOk result (Begins script.now client pass.old pass.new) }
+    ensures not { OnErr result (GoesOn client pass.old pass.new []) }
+{
+    let _ = script;
+    hub.begin(rt, pass, client)
+}
+
+// Begins the client's next program, once its server has published the client's last entry.
+fn begin_program<D: Disk, R: Threads + Wait + Sync, G: Gate + Sync>(
+    rt: &R,
+    alloc: Global,
+    script: &Script,
+    hub: &Hub<D>,
+    pass: &mut Pass<Contents<D>>,
+    server: u8,
+    client: u8,
+    threads: usize,
+    gate: &G,
+) -> Result<Begun, Cut>
+    requires pass { IsRunPass hub.now script.now pass.old }
+    requires server { IsWithin 1 script.now.servers server }
+    requires client { IsWithin 1 (length script.now.clients) client }
+    requires threads { IsWithin 1 16 threads }
+    ensures pass { IsRunPass hub.now script.now pass.new }
+    ensures parts { pass.new.parts ≡ pass.old.parts }
+    ensures begun { IfOk result (Begins script.now client pass.old pass.new) }
+{
+    for _ in rt.forever() {
+        match begin_once(rt, script, hub, pass, client) {
+            Ok(begun) => return Ok(begun),
+            Err(BeginRefusal::OutOfTurn { .. }) => {}
+            Err(BeginRefusal::Behind { .. }) => {
+                catch_up(rt, alloc, script, hub, pass, server, threads, gate)?;
+            }
+            Err(BeginRefusal::Memory) => return Err(Cut),
+        }
+    }
+    unreachable!()
+}
+
+// Ends the client's program, which only read. None where the client is out of turn.
+fn end_reading<D: Disk, R: Wait>(
+    rt: &R,
+    script: &Script,
+    hub: &Hub<D>,
+    pass: &mut Pass<Contents<D>>,
+    client: u8,
+) -> Result<Option<End>, Cut>
+    requires pass { IsRunPass hub.now script.now pass.old }
+    requires client { IsWithin 1 (length script.now.clients) client }
+    ensures pass { IsRunPass hub.now script.now pass.new }
+    ensures parts { pass.new.parts ≡ pass.old.parts }
+    ensures ended { (end : _) → result ≡ Ok (Some end) → (end ≡ End.Reading) × EndsReading client pass.old pass.new }
+    ensures not { result ≡ Ok None → GoesOn client pass.old pass.new [] }
+{
+    let _ = script;
+    match hub.end(rt, pass, client) {
+        Ok(()) => Ok(Some(End::Reading)),
+        Err(EndRefusal::OutOfTurn { .. }) => Ok(None),
+        Err(EndRefusal::Memory) => Err(Cut),
+    }
+}
+
+// Appends the entry of the client's program, where the log isn't full. None where the client is out of turn.
+fn append_entry<D: Disk, R: Wait>(
+    rt: &R,
+    script: &Script,
+    hub: &Hub<D>,
+    pass: &mut Pass<Contents<D>>,
+    client: u8,
+    entry: Entry,
+) -> Result<Option<End>, Cut>
+    requires pass { IsRunPass hub.now script.now pass.old }
+    requires client { IsWithin 1 (length script.now.clients) client }
+    requires own { IsEntryOf client pass.old.seen entry }
+    ensures pass { IsRunPass hub.now script.now pass.new }
+    ensures parts { pass.new.parts ≡ pass.old.parts }
+    ensures taken { (end : _) → result ≡ Ok (Some end) → Takes client entry pass.old pass.new end }
+    ensures not { result ≡ Ok None → GoesOn client pass.old pass.new [] }
+{
+    let _ = script;
+    match hub.append(rt, pass, client, entry) {
+        Ok(pos) => Ok(Some(End::EntryAt { pos })),
+        Err(AppendRefusal::Full) => Ok(Some(End::FullLog)),
+        Err(AppendRefusal::OutOfTurn { .. }) => Ok(None),
+        Err(AppendRefusal::Memory) => Err(Cut),
+        Err(AppendRefusal::Stopped { .. }) => Err(Cut),
+        Err(AppendRefusal::Device) => Err(Cut),
+    }
+}
+
+// Ends a program that has run, by its entry where it wrote. None where the client is out of turn.
+fn end_program<D: Disk, R: Wait>(
+    rt: &R,
+    script: &Script,
+    hub: &Hub<D>,
+    pass: &mut Pass<Contents<D>>,
+    client: u8,
+    finished: Finished,
+) -> Result<Option<End>, Cut>
+    requires pass { IsRunPass hub.now script.now pass.old }
+    requires client { IsWithin 1 (length script.now.clients) client }
+    requires own { IsOwnEnd client pass.old.seen finished }
+    ensures pass { IsRunPass hub.now script.now pass.new }
+    ensures parts { pass.new.parts ≡ pass.old.parts }
+    ensures ended { (end : _) → result ≡ Ok (Some end) → EndsBy client finished pass.old pass.new end }
+    ensures not { result ≡ Ok None → GoesOn client pass.old pass.new [] }
+{
+    match finished {
+        Finished::ReadOnly(_) => end_reading(rt, script, hub, pass, client),
+        Finished::Entry(entry) => append_entry(rt, script, hub, pass, client, entry),
+    }
+}
+
+// Runs a begun program on its snapshot, and ends it. None where the client is out of turn.
+fn run_once<D: Disk, R: Wait>(
+    rt: &R,
+    alloc: Global,
+    script: &Script,
+    hub: &Hub<D>,
+    pass: &mut Pass<Contents<D>>,
+    server: u8,
+    client: u8,
+    number: usize,
+    program: &Program,
+    begun: &Begun,
+) -> Result<Option<Answered>, Cut>
+    requires pass { IsRunPass hub.now script.now pass.old }
+    requires client { IsClient script.now client server }
+    requires program { program_of script.now client number ≡ Some program.now }
+    requires rows { AreLive script.now pass.old.seen begun.now.snap begun.now.roller.rolled.tree }
+    ensures pass { IsRunPass hub.now script.now pass.new }
+    ensures parts { pass.new.parts ≡ pass.old.parts }
+    ensures snap { (told : _) → result ≡ Ok (Some told) → told.snap ≡ begun.now.snap }
+    ensures ended { (told : _) → result ≡ Ok (Some told) → Ends script.now client number pass.old pass.new told }
+    ensures not { result ≡ Ok None → GoesOn client pass.old pass.new [] }
+{
+    let _ = number;
+    let snap = begun.snap;
+    let tree = begun.roller.tree().share()?;
+    let Executed { answers, finished } = run_program(alloc, program, tree, snap, server, client)?;
+    match end_program(rt, script, hub, pass, client, finished)? {
+        Some(end) => Ok(Some(Answered { snap, end, answers })),
+        None => Ok(None),
+    }
+}
+
+// Runs a begun program on its snapshot, and ends it. A client that is out of turn asks again.
+fn finish_program<D: Disk, R: Wait>(
+    rt: &R,
+    alloc: Global,
+    script: &Script,
+    hub: &Hub<D>,
+    pass: &mut Pass<Contents<D>>,
+    server: u8,
+    client: u8,
+    number: usize,
+    program: &Program,
+    begun: &Begun,
+) -> Result<Answered, Cut>
+    requires pass { IsRunPass hub.now script.now pass.old }
+    requires client { IsClient script.now client server }
+    requires program { program_of script.now client number ≡ Some program.now }
+    requires rows { AreLive script.now pass.old.seen begun.now.snap begun.now.roller.rolled.tree }
+    ensures pass { IsRunPass hub.now script.now pass.new }
+    ensures parts { pass.new.parts ≡ pass.old.parts }
+    ensures snap { IfOk result (λ told. told.snap ≡ begun.now.snap) }
+    ensures ended { IfOk result (Ends script.now client number pass.old pass.new) }
+{
+    for _ in rt.forever() {
+        let told = run_once(
+            rt, alloc, script, hub, pass, server, client, number, program, begun,
+        )?;
+        if let Some(told) = told {
+            return Ok(told);
+        }
+    }
+    unreachable!()
+}
+
+// Serves the client's program of a number, from 1.
+fn serve_program<D: Disk, R: Threads + Wait + Sync, G: Gate + Sync>(
+    rt: &R,
+    alloc: Global,
+    script: &Script,
+    hub: &Hub<D>,
+    pass: &mut Pass<Contents<D>>,
+    server: u8,
+    client: u8,
+    number: usize,
+    program: &Program,
+    threads: usize,
+    gate: &G,
+) -> Result<Answered, Cut>
+    requires pass { IsRunPass hub.now script.now pass.old }
+    requires client { IsClient script.now client server }
+    requires program { program_of script.now client number ≡ Some program.now }
+    requires threads { IsWithin 1 16 threads }
+    ensures pass { IsRunPass hub.now script.now pass.new }
+    ensures parts { pass.new.parts ≡ pass.old.parts }
+    ensures served { IfOk result (Serves script.now client number pass.old pass.new) }
+{
+    let begun = begin_program(rt, alloc, script, hub, pass, server, client, threads, gate)?;
+    finish_program(
+        rt, alloc, script, hub, pass, server, client, number, program, &begun,
+    )
+}
+
+// Serves the client's next program, and notes what it is told of it.
+fn serve_next<D: Disk, R: Threads + Wait + Sync, G: Gate + Sync>(
+    rt: &R,
+    alloc: Global,
+    script: &Script,
+    hub: &Hub<D>,
+    pass: &mut Pass<Contents<D>>,
+    server: u8,
+    client: u8,
+    number: usize,
+    program: &Program,
+    told: &mut Vec<Answered>,
+    threads: usize,
+    gate: &G,
+) -> Result<(), Cut>
+    requires pass { IsRunPass hub.now script.now pass.old }
+    requires client { IsClient script.now client server }
+    requires number { number ≡ length told.old.items + 1 }
+    requires program { program_of script.now client number ≡ Some program.now }
+    requires served { AreServed script.now client 1 pass.old.seen (own_turns client pass.old) told.old.items }
+    requires threads { IsWithin 1 16 threads }
+    ensures pass { IsRunPass hub.now script.now pass.new }
+    ensures parts { pass.new.parts ≡ pass.old.parts }
+    ensures served { OnOk result (AreServed script.now client 1 pass.new.seen (own_turns client pass.new) told.new.items) }
+    ensures count { OnOk result (length told.new.items ≡ number) }
+{
+    let answered = serve_program(
+        rt, alloc, script, hub, pass, server, client, number, program, threads, gate,
+    )?;
+    told.push(answered)?;
+    Ok(())
+}
+
+// The client with a number, lent.
+fn client_of(script: &Script, number: u8) -> &Client
+    requires { IsWithin 1 (length script.now.clients) number }
+    ensures is { nth script.now.clients number ≡ Some result.now }
+    ensures own { IsClient script.now number result.now.server }
+{
+    let clients = script.clients();
+    &clients[number as usize - 1]
+}
+
+/// Serves a client's programs in their order, and notes what it is told of each.
+pub(crate) fn serve_client<D: Disk, R: Threads + Wait + Sync, G: Gate + Sync>(
+    rt: &R,
+    alloc: Global,
+    script: &Script,
+    hub: &Hub<D>,
+    pass: &mut Pass<Contents<D>>,
+    client: u8,
+    told: &mut Vec<Answered>,
+    threads: usize,
+    gate: &G,
+) -> Result<(), Cut>
+    requires pass { IsRunPass hub.now script.now pass.old }
+    requires client { IsWithin 1 (length script.now.clients) client }
+    requires unserved { own_turns client pass.old ≡ [] }
+    requires untold { told.old.items ≡ [] }
+    requires threads { IsWithin 1 16 threads }
+    ensures pass { IsRunPass hub.now script.now pass.new }
+    ensures parts { pass.new.parts ≡ pass.old.parts }
+    ensures served { OnOk result (AreServed script.now client 1 pass.new.seen (own_turns client pass.new) told.new.items) }
+    ensures whole { OnOk result ((own : Client) → nth script.now.clients client ≡ Some own → length told.new.items ≡ length own.programs) }
+{
+    let own = client_of(script, client);
+    let programs = own.programs.as_slice();
+    for at in 0..programs.len() {
+        let number = at + 1;
+        let program = &programs[at];
+        serve_next(
+            rt, alloc, script, hub, pass, own.server, client, number, program, told, threads, gate,
+        )?;
+    }
+    Ok(())
+}
