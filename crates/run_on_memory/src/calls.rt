@@ -1,0 +1,97 @@
+//! Calls over a log in memory.
+use crate::roomy;
+use hy_base::{Pos, Words};
+use hy_disk::Disk;
+use hy_io::{MemSink, MemSource};
+use hy_mem::MemDisk;
+use hy_pipe::{Gate, OpenGate};
+use hy_run::{Done, Status, hyder_call};
+use std::alloc::Global;
+use std::sync::Wait;
+use std::test::Fail;
+use std::thread::Threads;
+
+pub const RUN: &[&str] = &["run"];
+
+/// An empty device with ample room.
+pub fn empty(alloc: Global) -> Result<MemDisk, Fail> {
+    Ok(roomy(alloc, b"")?)
+}
+
+/// The words of a call: the program's name, and these.
+fn words_of(alloc: Global, asked: &[&str]) -> Result<Words, Fail> {
+    let mut words = Words::new(alloc);
+    words.push("hyder")?;
+    for word in asked {
+        words.push(word)?;
+    }
+    Ok(words)
+}
+
+/// A call over a log, with this source, sink and gate.
+pub fn call<R: Threads + Wait + Sync, G: Gate + Sync>(
+    rt: &R,
+    alloc: Global,
+    asked: &[&str],
+    source: &mut MemSource,
+    sink: &mut MemSink,
+    log: MemDisk,
+    gate: &G,
+) -> Result<Done<MemDisk>, Fail> {
+    let words = words_of(alloc, asked)?;
+    let points = MemDisk::new(alloc, b"points", &[1])?;
+    let done = hyder_call(rt, alloc, &words, source, sink, log, points, gate);
+    if done.points.faults() != 0 {
+        return Err("the other device was used")?;
+    }
+    Ok(done)
+}
+
+/// A call over a log, with a source and a sink that don't fail.
+pub fn ask<R: Threads + Wait + Sync>(
+    rt: &R,
+    alloc: Global,
+    asked: &[&str],
+    script: &[u8],
+    log: MemDisk,
+) -> Result<(Done<MemDisk>, MemSink), Fail> {
+    let mut source = MemSource::new(alloc, script, 7, &[])?;
+    let mut sink = MemSink::new(alloc, 1000, 1000, &[])?;
+    let done = call(rt, alloc, asked, &mut source, &mut sink, log, &OpenGate)?;
+    Ok((done, sink))
+}
+
+/// What a call is to answer and to write.
+#[derive(Clone, Copy)]
+pub struct Answer<'a> {
+    pub status: Status,
+    pub acked: Pos,
+    pub text: &'a [u8],
+}
+
+/// What a call is to write that ends well over a log which then has so many entries.
+pub fn fine(acked: Pos, text: &[u8]) -> Answer<'_> {
+    Answer {
+        status: Status::Fine,
+        acked,
+        text,
+    }
+}
+
+/// A call over a log, which has to answer and to write this. It answers the device; the error says what the call shows.
+pub fn told<R: Threads + Wait + Sync>(
+    rt: &R,
+    alloc: Global,
+    what: &'static str,
+    asked: &[&str],
+    script: &[u8],
+    log: MemDisk,
+    wanted: Answer<'_>,
+) -> Result<MemDisk, Fail> {
+    let (done, sink) = ask(rt, alloc, asked, script, log)?;
+    let is_answered = done.status == wanted.status && done.acked == wanted.acked;
+    if !is_answered || sink.taken() != wanted.text {
+        return Err(what)?;
+    }
+    Ok(done.log)
+}
