@@ -71,15 +71,18 @@ fn runs_of_one_client_are_told(rt: HostRuntime) -> Result<(), Fail> {
     Ok(())
 }
 
+// Whether these are the bytes of a log without entries: the header, and the open gate behind it.
+fn is_without_entries(bytes: &[u8]) -> bool {
+    bytes.get(..256) == one_put().get(..256) && bytes.get(256..) == Some(b"\0".as_slice())
+}
+
 #[test]
 fn the_device_has_the_header_and_the_record(rt: HostRuntime) -> Result<(), Fail> {
     let alloc = rt.alloc();
-    let wanted = one_put();
     let (done, _) = ask(&rt, alloc, RUN, NO_CLIENT, empty(alloc)?)?;
-    assert!(rt; done.log.bytes().get(..256) == Some(&wanted[..256]));
-    assert!(rt; done.log.bytes().get(256..) == Some(b"\0".as_slice()));
+    assert!(rt; is_without_entries(done.log.bytes()));
     let (done, _) = ask(&rt, alloc, RUN, ONE_PUT, empty(alloc)?)?;
-    assert!(rt; done.log.bytes() == wanted.as_slice());
+    assert!(rt; done.log.bytes() == one_put().as_slice());
     Ok(())
 }
 
