@@ -2,7 +2,7 @@
 ghost use Rattle.std.specs.Prelude.{◌≤◌};
 
 use crate::calls::{Answer, RUN, ask, empty, fine, told};
-use crate::logs::{DUMP, NONE};
+use crate::logs::{DUMP, NO_CLIENT, NONE, ONE_PUT};
 use hy_base::Pos;
 use hy_disk::Tuned;
 use hy_mem::MemDisk;
@@ -12,11 +12,7 @@ use std::sync::Wait;
 use std::test::Fail;
 use std::thread::Threads;
 
-const NO_CLIENT: &[u8] = b"shape 1 1 8\nservers 1\n";
-
 const NO_CLIENT_AFTER_PUT: &[u8] = b"trace 0\nserver 1 at 1 rows 1\nrow 1 a by 1\n";
-
-const ONE_PUT: &[u8] = b"shape 1 1 8\nservers 1\nclient 1\nbegin\nput 1 a\nend\n";
 
 const THREE_CLIENTS: &[u8] =
     b"shape 2 1 20\nservers 2\nclient 1\nbegin\nput 1 a\nend\nbegin\nadd 7 1\nend\nclient 2\nbegin\nadd 7 1\nend\nbegin\nget 7\nend\nclient 1\nbegin\ndel 1\nend\nbegin\nput 2 b\nend\n";

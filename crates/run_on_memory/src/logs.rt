@@ -1,5 +1,11 @@
 //! Logs of one entry, byte by byte, and what is said of the one with a put.
 
+/// A script without a client.
+pub const NO_CLIENT: &[u8] = b"shape 1 1 8\nservers 1\n";
+
+/// The script whose run makes the log of one put.
+pub const ONE_PUT: &[u8] = b"shape 1 1 8\nservers 1\nclient 1\nbegin\nput 1 a\nend\n";
+
 /// The bytes of a device whose log, in groups of this size, has one entry with this body.
 pub fn one_entry(group: u8, body: &[u8]) -> [u8; 513] {
     let mut bytes = [0; 513];

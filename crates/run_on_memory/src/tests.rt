@@ -1,6 +1,6 @@
 //! Calls of `run`, and what they leave for the next one, for `recover` and for `check`.
 use crate::calls::{Answer, RUN, ask, call, empty, fine, told};
-use crate::logs::{CHECK, DUMP, one_put};
+use crate::logs::{CHECK, DUMP, NO_CLIENT, ONE_PUT, one_put};
 use crate::roomy;
 use hy_base::{Field, Pos};
 use hy_io::{MemSink, MemSource};
@@ -13,11 +13,7 @@ use std::sync::atomic::{AtomicU32, Ordering};
 use std::test::Fail;
 use std::thread::Threads;
 
-const NO_CLIENT: &[u8] = b"shape 1 1 8\nservers 1\n";
-
 const NO_CLIENT_OUT: &[u8] = b"trace 0\nserver 1 at 0 rows 0\n";
-
-const ONE_PUT: &[u8] = b"shape 1 1 8\nservers 1\nclient 1\nbegin\nput 1 a\nend\n";
 
 const ONE_PUT_OUT: &[u8] =
     b"trace 3\nb 1\na 1\nr 1 1\nprogram 1 1\nok\nat 1 commit\nserver 1 at 1 rows 1\nrow 1 a by 1\n";
