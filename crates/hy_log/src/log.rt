@@ -1,16 +1,16 @@
 //! The log: bodies, each on the disk before it is acknowledged.
-ghost use Rattle.std.specs.Prelude.{◌≡◌, ◌≢◌, ◌+◌, ◌-◌, ◌*◌, ◌^◌, ◌<◌, ◌≤◌, ◌↔◌, ◌++◌, [], ◌∷◌, ℕ, List, length, take, Some, None, IsTrue, IsOk, IsErr, IfOk, IfErr, IfSome, OnOk, OnErr};
+ghost use Rattle.std.specs.Prelude.{◌≡◌, ◌≢◌, ◌+◌, ◌-◌, ◌*◌, ◌^◌, ◌<◌, ◌≤◌, ◌↔◌, ◌++◌, [], ◌∷◌, ℕ, List, length, min, take, Some, None, IsTrue, IsOk, IsErr, IfOk, IfErr, IfSome, OnOk, OnErr};
 ghost use Rattle.hy_base.specs.Faults.{HasCause, Rose};
 ghost use Rattle.hy_base.specs.Shape.{IsGoodShape};
 ghost use Rattle.hy_rules.specs.LogFormat.{page_count, record_rest, IsBody};
 ghost use Rattle.hy_disk.specs.Content.{Image, settled};
 ghost use Rattle.hy_disk.specs.Stops.{stopped as after_stop};
-ghost use Rattle.hy_disk.specs.Moments.{LeavesOnly};
+ghost use Rattle.hy_disk.specs.Moments.{Elapses, LeavesOnly};
 ghost use Rattle.hy_disk.specs.Strikes.{IsUnarmed};
 ghost use Rattle.hy_base.specs.Lists.{nth};
 ghost use Rattle.hy_log.specs.Kept.{IsKept};
 ghost use Rattle.hy_log.specs.Looks.{IsLook};
-ghost use Rattle.hy_log.specs.Opening.{MayRefuse, Opens, disk_of, outcome};
+ghost use Rattle.hy_log.specs.Opening.{MayFail, MayRefuse, Opens, disk_of, outcome};
 ghost use Rattle.hy_log.specs.View.{Holds, HoldsAtMost};
 ghost use Rattle.hy_log.specs.declared.error.OpenError.TheVariants as opening;
 
@@ -99,6 +99,7 @@ impl<D: Disk> PageLog<D> {
 
         // Within the device's room it doesn't answer Device.
         ensures room { (k b : ℕ) → length self.old.bodies ≢ self.old.shape.cap → self.old.stopped ≡ None → D.has_room self.old.disk (k + 4) (b + 1 + 256 * page_count (length body.now)) → IsOk result × D.has_room self.new.disk k b }
+        ensures unarmed { IsUnarmed (D.strikes self.old.disk) → IsUnarmed (D.strikes self.new.disk) }
 
         // Where one of the first two device calls is to fail, no stop leaves the body. Where one of the last two is, just the
         // stop that leaves the new bytes does.
@@ -140,6 +141,7 @@ impl<D: Disk> PageLog<D> {
             × ((image : List ℕ) → Image (D.content self.new.disk) image → HoldsAtMost self.old.shape self.old.bodies body.now image)) }
         ensures any_moment { IsTrue D.tells → LeavesOnly D.moment D.left_since self.old.disk self.new.disk (HoldsAtMost self.old.shape self.old.bodies body.now) }
         ensures room { (k b : ℕ) → D.has_room self.old.disk (k + 4) (b + 1 + 256 * page_count (length body.now)) → IsOk result × D.has_room self.new.disk k b }
+        ensures unarmed { IsUnarmed (D.strikes self.old.disk) → IsUnarmed (D.strikes self.new.disk) }
         ensures struck_behind { IsTrue D.tells → (k : ℕ) → 1 ≤ k → k ≤ 2 → D.strikes self.old.disk k → D.has_room self.old.disk (k - 1) (1 + 256 * page_count (length body.now)) → IsErr result
             × ((pattern : ℕ) → Holds self.old.shape self.old.bodies (after_stop pattern (D.content self.new.disk))) }
         ensures struck_gate { IsTrue D.tells → (k : ℕ) → 3 ≤ k → k ≤ 4 → D.strikes self.old.disk k → D.has_room self.old.disk (k - 1) (1 + 256 * page_count (length body.now)) → IsErr result
@@ -248,8 +250,12 @@ impl<D: Tuned> PageLog<D> {
     /// Reserves room on the device, as [`Tuned::room`] does. The log is as it was.
     pub fn room(&mut self, bytes: usize, calls: usize) -> Result<(), AllocError>
         ensures room { OnOk result (IsUnarmed (D.Disk.strikes self.old.disk) → D.Disk.has_room self.old.disk 0 0 → D.Disk.has_room self.new.disk calls bytes) }
+        ensures before { OnOk result ((k : ℕ) → D.Disk.strikes self.old.disk (k + 1) → D.Disk.has_room self.old.disk 0 0 → D.Disk.has_room self.new.disk (min (calls - 1) k) bytes) }
+        ensures keeps { (k b : ℕ) → D.Disk.has_room self.old.disk k b → D.Disk.has_room self.new.disk k b }
+        ensures strikes { (k : ℕ) → D.Disk.strikes self.old.disk k → D.Disk.strikes self.new.disk k }
         ensures unarmed { IsUnarmed (D.Disk.strikes self.old.disk) → IsUnarmed (D.Disk.strikes self.new.disk) }
         ensures content { D.Disk.content self.new.disk ≡ D.Disk.content self.old.disk }
+        ensures time { Elapses (D.Disk.moment self.old.disk) (D.Disk.moment self.new.disk) (D.Disk.left_since self.old.disk) (D.Disk.left_since self.new.disk) (D.Disk.content self.new.disk) }
         ensures faults { D.Disk.faults_of self.new.disk ≡ D.Disk.faults_of self.old.disk }
         ensures same { (self.new.shape ≡ self.old.shape) × (self.new.stopped ≡ self.old.stopped) × (self.new.bodies ≡ self.old.bodies) × (self.new.spare ≡ self.old.spare) }
     {
@@ -262,6 +268,7 @@ impl<D: Tuned> PageLog<D> {
         ensures strikes { D.Disk.strikes self.new.disk k }
         ensures room { (b : ℕ) → D.Disk.has_room self.old.disk k b → D.Disk.has_room self.new.disk (k - 1) b }
         ensures content { D.Disk.content self.new.disk ≡ D.Disk.content self.old.disk }
+        ensures time { Elapses (D.Disk.moment self.old.disk) (D.Disk.moment self.new.disk) (D.Disk.left_since self.old.disk) (D.Disk.left_since self.new.disk) (D.Disk.content self.new.disk) }
         ensures faults { D.Disk.faults_of self.new.disk ≡ D.Disk.faults_of self.old.disk }
         ensures same { (self.new.shape ≡ self.old.shape) × (self.new.stopped ≡ self.old.stopped) × (self.new.bodies ≡ self.old.bodies) × (self.new.spare ≡ self.old.spare) }
     {
@@ -294,6 +301,10 @@ pub fn open_log<D: Disk>(
     ensures untouched { IsTrue D.tells → IfErr result (λ refused. refused.error ≢ opening.Device → refused.error ≢ opening.Memory → D.content refused.disk ≡ settled (D.content disk).seen) }
     ensures seen { IsTrue D.tells → IfErr result (λ refused. refused.error ≢ opening.Device → (D.content refused.disk).seen ≡ (D.content disk).seen) }
 
+    // A device that holds a log of the shape that is asked for is opened, unless it fails or memory is wanting.
+    ensures holding { IsTrue D.tells → (s : Shape) (bodies : List (List ℕ)) → asked ≡ Some s → Holds s bodies (D.content disk).seen
+        → IfOk result (λ log. (log.shape ≡ s) × (log.bodies ≡ bodies)) × IfErr result (λ refused. MayFail refused.error) }
+
     // A crash at any moment of the call leaves what the device held, or that and the one body whose record stood whole behind
     // a torn gate; of an unborn device it leaves an unborn one, or one without records.
     ensures any_moment { IsTrue D.tells → D.content disk ≡ settled (D.content disk).seen → LeavesOnly D.moment D.left_since disk (disk_of result) (IsKept (D.content disk).seen) }
@@ -302,6 +313,7 @@ pub fn open_log<D: Disk>(
 
     // Within 7 calls and 258 bytes of the device's room it doesn't answer Device.
     ensures room { (k b : ℕ) → D.has_room disk (k + 7) (b + 258) → IfErr result (λ refused. refused.error ≢ opening.Device) × D.has_room (disk_of result) k b }
+    ensures unarmed { IsUnarmed (D.strikes disk) → IsUnarmed (D.strikes (disk_of result)) }
 {
     let mut disk = disk;
     let Ok(mut buffer) = zeros(alloc, 18688) else {
