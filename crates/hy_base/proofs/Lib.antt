@@ -3,3 +3,4 @@ pub mod ScriptLemmas
 pub mod NthLemmas
 pub mod EachLemmas
 pub mod RowLemmas
+pub mod NumberLemmas

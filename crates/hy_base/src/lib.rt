@@ -14,8 +14,6 @@ mod record;
 mod report;
 mod shared;
 mod steps;
-#[cfg(test)]
-mod tests;
 mod workload;
 
 pub use command_line::Words;

@@ -10,8 +10,6 @@ mod command;
 mod line;
 mod matched;
 mod parsing;
-#[cfg(test)]
-mod tests;
 
 pub use line::{CliError, Line};
 pub use parsing::parse;

@@ -17,7 +17,7 @@ use Rattle.hy_hub.specs.Hub.{IsTold}
 use Rattle.hy_hub.specs.Calls.{IsIdle, OneTurn}
 use Rattle.hy_hub.specs.Turns.{is_mark_of}
 use Rattle.hy_hub.proofs.Later.{not_empty}
-use Rattle.hy_hub.proofs.Lists.{nth_some}
+use Rattle.hy_base.proofs.NthLemmas.{nth_some}
 use Rattle.hy_clients.specs.declared.answered.Answered.{Answered}
 use Rattle.hy_clients.specs.Programs.{AreServed}
 use Rattle.hy_clients.specs.Passing.{OpensStanding, IsRunPass, own_turns}

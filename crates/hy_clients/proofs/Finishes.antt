@@ -22,7 +22,7 @@ use Rattle.hy_hub.specs.Trace.{setting_of, state_of}
 use Rattle.hy_hub.specs.Hub.{IsBoard}
 use Rattle.hy_hub.specs.Calls.{events_of}
 use Rattle.hy_hub.specs.Close.{IsClosed}
-use Rattle.hy_hub.proofs.Lists.{both}
+use Rattle.hy_base.proofs.NthLemmas.{both}
 use Rattle.hy_hub.proofs.Told.{told_setting}
 use Rattle.hy_clients.specs.declared.answered.Answered.{Answered}
 use Rattle.hy_clients.specs.Passing.{OpensStanding, opened_log}

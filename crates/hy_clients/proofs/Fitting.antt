@@ -18,7 +18,7 @@ use Rattle.hy_rules.specs.Runs.{Ended, Ending, ByReading, ByEntryAt, ByFullLog, 
 use Rattle.hy_hub.specs.declared.mark.Mark.{Mark}
 use Rattle.hy_hub.specs.declared.mark.Mark.TheVariants.{Happened}
 use Rattle.hy_hub.specs.Turns.{is_event_of}
-use Rattle.hy_hub.proofs.Lists.{left_of}
+use Rattle.hy_base.proofs.NthLemmas.{left_of}
 use Rattle.hy_clients.specs.declared.answered.Answered.{Answered}
 use Rattle.hy_clients.specs.Programs.{ending_of, effects_on, has_written, entry_of}
 use Rattle.hy_clients.proofs.Sessions.{nth_changed, is_running, same_number}

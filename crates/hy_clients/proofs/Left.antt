@@ -30,7 +30,7 @@ use Rattle.hy_hub.specs.Close.{IsClosed}
 use Rattle.hy_hub.specs.Outset.{IsOutset}
 use Rattle.hy_hist.proofs.Lists.{prefix_self}
 use Rattle.hy_base.specs.declared.workload.Home.{Home}
-use Rattle.hy_hub.proofs.Lists.{left_of, right_of}
+use Rattle.hy_base.proofs.NthLemmas.{left_of, right_of}
 use Rattle.hy_hub.proofs.Told.{told_setting}
 use Rattle.hy_hub.proofs.Passing.{log_more}
 use Rattle.hy_clients.specs.Passing.{OpensStanding, opened_log, opened_faults}

@@ -22,7 +22,7 @@ use Rattle.hy_hub.specs.declared.mark.Opening.{Opening}
 use Rattle.hy_hub.specs.Trace.{setting, setting_of, state_of}
 use Rattle.hy_hub.specs.Hub.{IsTold, IsBoardAt}
 use Rattle.hy_hub.specs.Calls.{IsRollerOf, board_at, len_of}
-use Rattle.hy_hub.proofs.Lists.{All-nth}
+use Rattle.hy_base.proofs.NthLemmas.{All-nth}
 use Rattle.hy_hub.proofs.Passing.{log_more, roller_more}
 use Rattle.hy_hub.proofs.Later.{opened_on}
 use Rattle.hy_clients.proofs.Answering.{live_grows}

@@ -20,7 +20,7 @@ use Rattle.hy_hub.specs.declared.mark.Mark.{Mark}
 use Rattle.hy_hub.specs.declared.mark.Mark.TheVariants.{Opened, Happened, Halted}
 use Rattle.hy_hub.specs.Trace.{setting_of}
 use Rattle.hy_hub.specs.Calls.{OneTurn, IsIdle, IsEntryOf, is_declared_client}
-use Rattle.hy_hub.proofs.Lists.{nth_map, nth_within, All-nth}
+use Rattle.hy_base.proofs.NthLemmas.{nth_map, nth_within, All-nth}
 use Rattle.hy_clients.specs.Passing.{OpensStanding, IsRunPass}
 use Rattle.hy_clients.specs.Serving.{IsClient}
 use Rattle.hy_clients.proofs.Turning.{grows}

@@ -26,7 +26,7 @@ use Rattle.hy_hub.specs.Trace.{setting, opening_state, setting_of, state_of}
 use Rattle.hy_hub.specs.Hub.{IsBoardAt, IsTold}
 use Rattle.hy_hub.specs.Calls.{OneTurn, PadDoes, LookDoes, PublishDoes, IsRollerOf, len_of, lack_of}
 use Rattle.hy_hub.specs.Laws.{IsPadded, IsPublished}
-use Rattle.hy_hub.proofs.Lists.{left_of, right_of, both}
+use Rattle.hy_base.proofs.NthLemmas.{left_of, right_of, both}
 use Rattle.hy_hub.proofs.Told.{told_setting}
 use Rattle.hy_hub.proofs.Rolls.{rolled_on, filled_whole}
 use Rattle.hy_hub.proofs.Padding.{missing_is}

@@ -14,7 +14,7 @@ use Rattle.hy_hub.specs.declared.mark.Mark.{Mark}
 use Rattle.hy_hub.specs.Trace.{setting, setting_of, state_of, led, AreMoves, is_stop}
 use Rattle.hy_hub.specs.Hub.{IsTold}
 use Rattle.hy_hub.specs.Calls.{events_of}
-use Rattle.hy_hub.proofs.Lists.{nth_map}
+use Rattle.hy_base.proofs.NthLemmas.{nth_map}
 use Rattle.hy_hub.proofs.Told.{told_setting}
 use Rattle.hy_clients.specs.declared.answered.Answered.{Answered}
 use Rattle.hy_clients.specs.Programs.{AreServed}

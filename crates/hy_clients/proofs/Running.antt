@@ -19,7 +19,7 @@ use Rattle.hy_hub.specs.declared.mark.Mark.{Mark}
 use Rattle.hy_hub.specs.declared.mark.Mark.TheVariants.{Opened, Happened, Halted}
 use Rattle.hy_hub.specs.Trace.{is_stop, led, AreMoves}
 use Rattle.hy_hub.specs.Calls.{events_of}
-use Rattle.hy_hub.proofs.Lists.{left_of, both}
+use Rattle.hy_base.proofs.NthLemmas.{left_of, both}
 use Rattle.hy_clients.proofs.Sessions.{known_client}
 use Rattle.hy_clients.proofs.Progress.{Fits}
 use Rattle.hy_clients.proofs.Walk.{AreFitOf}

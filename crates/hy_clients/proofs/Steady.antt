@@ -13,7 +13,7 @@ use Rattle.hy_rules.specs.Moves.{Setting, State, after, enabled, board_of, openi
 use Rattle.hy_hub.specs.declared.mark.Mark.{Mark}
 use Rattle.hy_hub.specs.declared.mark.Mark.TheVariants.{Opened, Happened, Halted}
 use Rattle.hy_hub.specs.Trace.{is_stop, led, AreMoves}
-use Rattle.hy_hub.proofs.Lists.{right_of}
+use Rattle.hy_base.proofs.NthLemmas.{right_of}
 use Rattle.hy_hub.proofs.Turns.{unarmed}
 
 pub record IsSteady (s : State) : Type 0 where

@@ -1,4 +1,3 @@
-pub mod Numbers
 pub mod Values
 pub mod Rising
 pub mod Noted

@@ -13,8 +13,6 @@ mod number;
 mod order;
 mod scanning;
 mod seeing;
-#[cfg(test)]
-mod tests;
 mod txn;
 
 pub use execute::{Executed, run_program};

@@ -8,7 +8,5 @@
 
 mod disk;
 mod late;
-#[cfg(test)]
-mod tests;
 
 pub use disk::FileDisk;

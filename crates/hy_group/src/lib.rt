@@ -5,7 +5,5 @@
 #![tactic(auto)]
 
 mod group;
-#[cfg(test)]
-mod tests;
 
 pub use group::{Group, Join};

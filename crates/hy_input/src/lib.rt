@@ -7,7 +7,5 @@
 #![tactic(auto)]
 
 mod input;
-#[cfg(test)]
-mod tests;
 
 pub use input::{Input, read_input};

@@ -16,8 +16,6 @@ mod memory;
 mod rest;
 mod std_streams;
 mod sure;
-#[cfg(test)]
-mod tests;
 mod whole;
 
 pub use hy_base::Failed;

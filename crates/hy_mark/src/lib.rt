@@ -8,8 +8,6 @@
 mod covering;
 mod marks;
 mod pairs;
-#[cfg(test)]
-mod tests;
 mod written;
 
 pub use covering::cover;

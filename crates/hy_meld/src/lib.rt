@@ -7,8 +7,6 @@
 
 mod applying;
 mod checking;
-#[cfg(test)]
-mod tests;
 
 pub use applying::apply;
 pub use checking::check;

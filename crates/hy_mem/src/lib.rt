@@ -13,8 +13,6 @@ mod memory;
 mod past;
 mod room;
 mod store;
-#[cfg(test)]
-mod tests;
 
 pub use memory::MemDisk;
 pub use room::Room;

@@ -9,8 +9,6 @@
 mod header;
 mod laws;
 mod record;
-#[cfg(test)]
-mod tests;
 
 pub use header::{header_of, is_unborn, read_header};
 pub use laws::{

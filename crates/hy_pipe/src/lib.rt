@@ -10,8 +10,6 @@ mod laws;
 mod roller;
 mod rolling;
 mod staging;
-#[cfg(test)]
-mod tests;
 mod verdicts;
 
 pub use gate::{Gate, OpenGate};

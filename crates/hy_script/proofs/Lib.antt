@@ -1,5 +1,4 @@
 mod Cutting
-mod Numbers
 mod Drafts
 mod FieldLemmas
 mod ScriptLines

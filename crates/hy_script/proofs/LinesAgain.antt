@@ -22,7 +22,7 @@ use Rattle.hy_script.specs.declared.script.ListingLine.TheVariants.{Client, Begi
 use Rattle.hy_script.specs.declared.script.ProgramLine.TheVariants.{Next}
 use Rattle.hy_script.specs.declared.why.Why.{Why}
 use Rattle.hy_script.specs.declared.why.Why.TheVariants.{Number, Value, Range, Order, Count}
-use Rattle.hy_script.proofs.Numbers.{number_of_decimal}
+use Rattle.hy_base.proofs.NumberLemmas.{number_of_decimal}
 
 -- fields
 

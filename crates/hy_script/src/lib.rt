@@ -17,8 +17,6 @@ mod refused;
 mod schedule;
 mod script;
 mod source;
-#[cfg(test)]
-mod tests;
 mod why;
 mod words;
 

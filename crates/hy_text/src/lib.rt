@@ -6,8 +6,6 @@
 #![tactic(auto)]
 
 mod log_texts;
-#[cfg(test)]
-mod tests;
 mod texts;
 
 pub use log_texts::{config_line, device_line, entry_line, page_line, write_check, write_dump};

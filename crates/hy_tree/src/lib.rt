@@ -8,8 +8,6 @@
 
 mod laws;
 mod look;
-#[cfg(test)]
-mod tests;
 mod tree;
 
 pub use laws::{equal_rows_have_equal_views, paths_have_at_most_64_forks, places_have_one_list};

@@ -4,7 +4,7 @@ use Rattle.std.proofs.lemmas.Fmt.{parse-decimal, IsAscii-decimal}
 use Rattle.std.proofs.lemmas.Slice.Eq.{bytes_eq-Decides}
 use Rattle.std.proofs.lemmas.Str.{IsUtf8-from_ascii}
 use Rattle.std.specs.Prelude.{decimal}
-use Rattle.hy_exec.proofs.Numbers.{number_of_decimal, number_of_other}
+use Rattle.hy_base.proofs.NumberLemmas.{number_of_decimal, number_of_other}
 use Rattle.hy_exec.proofs.number.read_number.Goals as goal
 
 pub returns-in_default : goal.returns-in_default

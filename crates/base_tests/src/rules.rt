@@ -1,0 +1,61 @@
+//! The plain fold, on logs of a few sums.
+ghost use Rattle.std.specs.Prelude.{ℕ, ◌≡◌, ◌⊎◌, IfOk};
+ghost use Rattle.hy_base.specs.Shape.{IsWithin};
+ghost use Rattle.hy_base.specs.Log.{HasLawfulSnap};
+
+use hy_rules::{Folded, plain_fold};
+use hy_base::{Clash, Entry, Intention, Items, Shape, Value, Verdict, Write};
+use std::alloc::Global;
+use std::test::Fail;
+
+// What adding 1 to key 7 leaves, on the empty snapshot.
+fn sum(alloc: Global, client: u8) -> Result<Entry, Fail>
+    requires { IsWithin 1 128 client }
+    ensures { IfOk result (λ e. (pos : ℕ) → HasLawfulSnap (record { group = 1; window = 1; cap = 8 }) pos e) }
+{
+    let Ok(value) = Value::new(vec![in alloc; b'1']?) else {
+        return Err(Fail::new("the value is refused"));
+    };
+    let mut points = Items::new(alloc);
+    points.push(7)?;
+    let mut writes = Items::new(alloc);
+    writes.push(Write {
+        key: 7,
+        value: Some(value),
+    })?;
+    Ok(Entry::transaction(Intention {
+        server: 1,
+        client,
+        snap: 0,
+        points,
+        spans: Items::new(alloc),
+        writes,
+    }))
+}
+
+fn three_sums(alloc: Global) -> Result<Folded, Fail> {
+    let a = sum(alloc, 1)?;
+    let b = sum(alloc, 2)?;
+    let c = sum(alloc, 3)?;
+    let entries = vec![in alloc; a, b, c]?;
+    let shape = Shape {
+        group: 1,
+        window: 1,
+        cap: 8,
+    };
+    Ok(plain_fold(alloc, &entries, shape)?)
+}
+
+#[test]
+fn later_sums_abort(rt: HostRuntime) -> Result<(), Fail> {
+    let folded = three_sums(rt.alloc())?;
+    let first = Clash { key: 7, by: 1 };
+    let wanted = [
+        Some(Verdict::Commit),
+        Some(Verdict::Final(first)),
+        Some(Verdict::Pre(first)),
+    ];
+    assert_eq!(rt; folded.verdicts.as_slice(), wanted.as_slice());
+    assert_eq!(rt; folded.rows.len(), 1);
+    Ok(())
+}

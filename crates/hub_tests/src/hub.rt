@@ -1,0 +1,631 @@
+//! Small hubs over devices in memory.
+ghost use Rattle.std.specs.Prelude.{◌≡◌, ◌+◌, ◌<◌, ◌≤◌, All, IfOk, IfSome, length, ℕ, []};
+ghost use Rattle.hy_base.specs.Shape.{IsGoodShape, IsWithin};
+ghost use Rattle.hy_hub.specs.Calls.{IsIdle};
+ghost use Rattle.hub_tests.specs.Trial.{IsTrial, IsPutOf};
+
+use hy_hub::*;
+use hy_base::{
+    Entry, Event, Home, Intention, Phase, Points, Pos, Shape, Spans, Value, Verdict, Write, Writes,
+};
+use hy_disk::{Disk, Tuned};
+use hy_hist::Pass;
+use hy_log::{PageLog, open_log};
+use hy_mem::MemDisk;
+use hy_pipe::{OpenGate, Roller, Told};
+use std::alloc::{AllocError, Global};
+use std::sync::Wait;
+use std::test::Fail;
+use std::thread;
+use std::thread::Threads;
+
+type Trial = (Hub<MemDisk>, Pass<Contents<MemDisk>>);
+
+// A log without entries on a device, with room for a few appends.
+fn log_on(alloc: Global, shape: Shape) -> Result<PageLog<MemDisk>, Fail>
+    requires { IsGoodShape shape }
+    ensures { IfOk result (λ log. (log.stopped ≡ None) × (log.bodies ≡ []) × (log.shape ≡ shape)) }
+{
+    let mut disk = MemDisk::new(alloc, &[], &[])?;
+    disk.room(65536, 200)?;
+    let Ok(log) = open_log(alloc, disk, Some(shape)) else {
+        return Err("not opened")?;
+    };
+    if log.len() != 0 {
+        return Err("not empty")?;
+    }
+    Ok(log)
+}
+
+// A hub of two servers with a client each, which has three programs.
+fn hub_on(alloc: Global, shape: Shape, log: PageLog<MemDisk>) -> Result<Trial, Fail>
+    requires { IsGoodShape shape × (log.stopped ≡ None) × (log.bodies ≡ []) × (log.shape ≡ shape) }
+    ensures trial { IfOk result (λ r. IsTrial r.0 shape r.1) }
+    ensures parts { IfOk result (λ r. (r.0.parts ≡ 129) × (r.1.parts ≡ 129)) }
+{
+    let homes = [
+        Home {
+            server: 1,
+            programs: 3,
+        },
+        Home {
+            server: 2,
+            programs: 3,
+        },
+    ];
+    let start = Roller::new(alloc, shape)?;
+    match Hub::new(alloc, log, Vec::new(alloc), start, 2, &homes) {
+        Ok(made) => Ok(made),
+        Err(_) => Err(Fail::from(AllocError)),
+    }
+}
+
+fn start(alloc: Global, shape: Shape) -> Result<Trial, Fail>
+    requires { IsGoodShape shape }
+    ensures trial { IfOk result (λ r. IsTrial r.0 shape r.1) }
+    ensures parts { IfOk result (λ r. (r.0.parts ≡ 129) × (r.1.parts ≡ 129)) }
+{
+    let log = log_on(alloc, shape)?;
+    hub_on(alloc, shape, log)
+}
+
+// A put of a byte at key 1 by a client of the server with its number. None where memory is wanting.
+fn put(alloc: Global, client: u8, snap: Pos, byte: u8) -> Option<Entry>
+    requires { IsWithin 1 2 client }
+    ensures { IfSome result (IsPutOf client) }
+{
+    let value = Value::new(vec![in alloc; byte; 1].ok()?).ok()?;
+    let write = Write {
+        key: 1,
+        value: Some(value),
+    };
+    Some(Entry::transaction(Intention {
+        server: client,
+        client,
+        snap,
+        points: Points::new(alloc),
+        spans: Spans::new(alloc),
+        writes: Writes::from_vec(vec![in alloc; write].ok()?),
+    }))
+}
+
+fn begin<D: Disk, R: Wait>(
+    rt: &R,
+    shape: Shape,
+    hub: &Hub<D>,
+    pass: &mut Pass<Contents<D>>,
+    client: u8,
+) -> Result<Begun, BeginRefusal>
+    requires trial { IsTrial hub.now shape pass.old }
+    requires client { IsWithin 1 2 client }
+    ensures trial { IsTrial hub.now shape pass.new }
+    ensures parts { pass.new.parts ≡ pass.old.parts }
+{
+    let _ = shape;
+    hub.begin(rt, pass, client)
+}
+
+fn append<D: Disk, R: Wait>(
+    rt: &R,
+    shape: Shape,
+    hub: &Hub<D>,
+    pass: &mut Pass<Contents<D>>,
+    client: u8,
+    entry: Entry,
+) -> Result<Pos, AppendRefusal>
+    requires trial { IsTrial hub.now shape pass.old }
+    requires client { IsWithin 1 2 client }
+    requires own { IsPutOf client entry }
+    ensures trial { IsTrial hub.now shape pass.new }
+    ensures parts { pass.new.parts ≡ pass.old.parts }
+{
+    let _ = shape;
+    hub.append(rt, pass, client, entry)
+}
+
+// What a server's look gives, rolled and published.
+fn catch_up<D: Disk, R: Threads + Wait + Sync>(
+    rt: &R,
+    alloc: Global,
+    shape: Shape,
+    hub: &Hub<D>,
+    pass: &mut Pass<Contents<D>>,
+    server: u8,
+) -> Option<Result<(), PublishRefusal>>
+    requires trial { IsTrial hub.now shape pass.old }
+    requires server { IsWithin 1 2 server }
+    ensures trial { IsTrial hub.now shape pass.new }
+    ensures parts { pass.new.parts ≡ pass.old.parts }
+{
+    let _ = shape;
+    let look = hub.look(rt, pass, server).ok()?;
+    let entries = look.entries.as_slice();
+    let rolled = look.roller.roll(rt, alloc, entries, 1, &OpenGate).ok()?;
+    Some(hub.publish(rt, pass, server, rolled))
+}
+
+const SHAPE: Shape = Shape {
+    group: 1,
+    window: 1,
+    cap: 8,
+};
+
+const PAIRS: Shape = Shape {
+    group: 2,
+    window: 1,
+    cap: 8,
+};
+
+const FOURS: Shape = Shape {
+    group: 4,
+    window: 1,
+    cap: 8,
+};
+
+const SMALL: Shape = Shape {
+    group: 1,
+    window: 1,
+    cap: 1,
+};
+
+// The snapshot of the client's next program, once it has begun and put a byte.
+fn put_once<D: Disk, R: Wait>(
+    rt: &R,
+    alloc: Global,
+    shape: Shape,
+    hub: &Hub<D>,
+    pass: &mut Pass<Contents<D>>,
+    client: u8,
+) -> Option<Result<Pos, AppendRefusal>>
+    requires trial { IsTrial hub.now shape pass.old }
+    requires client { IsWithin 1 2 client }
+    ensures trial { IsTrial hub.now shape pass.new }
+    ensures parts { pass.new.parts ≡ pass.old.parts }
+{
+    let begun = begin(rt, shape, hub, pass, client).ok()?;
+    let entry = put(alloc, client, begun.snap, b'a')?;
+    Some(append(rt, shape, hub, pass, client, entry))
+}
+
+#[test]
+fn a_program_is_begun_appended_and_published(rt: HostRuntime) -> Result<(), Fail> {
+    let alloc = rt.alloc();
+    let (hub, mut pass) = start(alloc, SHAPE)?;
+    assert!(rt; put_once(&rt, alloc, SHAPE, &hub, &mut pass, 1) == Some(Ok(1)));
+    let behind = BeginRefusal::Behind { last: 1, board: 0 };
+    assert!(rt; begin(&rt, SHAPE, &hub, &mut pass, 1).err() == Some(behind));
+    assert!(rt; hub.pad(&rt, &mut pass, 1) == Err(PadRefusal::Even));
+    assert!(rt; hub.verdict(&rt, &mut pass, 1, 1) == Told::NotYet { at: 0 });
+    assert!(rt; catch_up(&rt, alloc, SHAPE, &hub, &mut pass, 1) == Some(Ok(())));
+    let stale = PublishRefusal::Stale { board: 1 };
+    assert!(rt; catch_up(&rt, alloc, SHAPE, &hub, &mut pass, 1) == Some(Err(stale)));
+    assert!(rt; hub.verdict(&rt, &mut pass, 1, 1) == Told::Known(Some(Verdict::Commit)));
+    assert!(rt; hub.verdict(&rt, &mut pass, 1, 0) == Told::Past { from: 0 });
+    let begun = begin(&rt, SHAPE, &hub, &mut pass, 1)
+        .ok()
+        .expect(&rt, "begun");
+    assert!(rt; begun.snap == 1);
+    assert!(rt; begun.roller.tree().row_count() == 1);
+    let twice = BeginRefusal::OutOfTurn {
+        client: 1,
+        phase: Phase::Begun { snap: 1 },
+    };
+    assert!(rt; begin(&rt, SHAPE, &hub, &mut pass, 1).err() == Some(twice));
+    let old = put(alloc, 1, 0, b'b').expect(&rt, "memory");
+    let other = AppendRefusal::OutOfTurn {
+        client: 1,
+        phase: Phase::Begun { snap: 1 },
+    };
+    assert!(rt; append(&rt, SHAPE, &hub, &mut pass, 1, old) == Err(other));
+    assert!(rt; hub.end(&rt, &mut pass, 1) == Ok(()));
+    let idle = EndRefusal::OutOfTurn {
+        client: 1,
+        phase: Phase::Idle,
+    };
+    assert!(rt; hub.end(&rt, &mut pass, 1) == Err(idle));
+    let trace = hub.trace(&rt, &mut pass)?;
+    let wanted = [
+        Event::Begin { client: 1 },
+        Event::Append { client: 1 },
+        Event::Publish { server: 1, upto: 1 },
+        Event::Begin { client: 1 },
+        Event::End { client: 1 },
+    ];
+    assert!(rt; trace.as_slice() == wanted.as_slice());
+    let closed = hub.close(pass);
+    assert!(rt; closed.entries.len() == 1);
+    assert!(rt; closed.marks.len() == 6);
+    assert!(rt; closed.log.close().bytes().len() == 513);
+    Ok(())
+}
+
+#[test]
+fn a_pad_completes_a_group(rt: HostRuntime) -> Result<(), Fail> {
+    let alloc = rt.alloc();
+    let (hub, mut pass) = start(alloc, PAIRS)?;
+    assert!(rt; put_once(&rt, alloc, PAIRS, &hub, &mut pass, 1) == Some(Ok(1)));
+    assert!(rt; hub.pad(&rt, &mut pass, 2) == Ok(2));
+    assert!(rt; catch_up(&rt, alloc, PAIRS, &hub, &mut pass, 1) == Some(Ok(())));
+    let begun = begin(&rt, PAIRS, &hub, &mut pass, 1)
+        .ok()
+        .expect(&rt, "begun");
+    assert!(rt; begun.snap == 2);
+    assert!(rt; hub.verdict(&rt, &mut pass, 1, 2) == Told::Known(None));
+    Ok(())
+}
+
+#[test]
+fn a_full_log_refuses_the_program(rt: HostRuntime) -> Result<(), Fail> {
+    let alloc = rt.alloc();
+    let (hub, mut pass) = start(alloc, SMALL)?;
+    assert!(rt; put_once(&rt, alloc, SMALL, &hub, &mut pass, 1) == Some(Ok(1)));
+    assert!(rt; put_once(&rt, alloc, SMALL, &hub, &mut pass, 2) == Some(Err(AppendRefusal::Full)));
+    let trace = hub.trace(&rt, &mut pass)?;
+    assert!(rt; trace.as_slice().last() == Some(&Event::Refuse { client: 2 }));
+    Ok(())
+}
+
+// A hub whose device fails in its k-th write or sync.
+fn failing(alloc: Global, shape: Shape, k: u64) -> Result<Trial, Fail>
+    requires { IsGoodShape shape × (1 ≤ k) }
+    ensures trial { IfOk result (λ r. IsTrial r.0 shape r.1) }
+    ensures parts { IfOk result (λ r. (r.0.parts ≡ 129) × (r.1.parts ≡ 129)) }
+{
+    let mut log = log_on(alloc, shape)?;
+    log.arm(k);
+    hub_on(alloc, shape, log)
+}
+
+#[test]
+fn an_append_that_fails_stops_the_hub(rt: HostRuntime) -> Result<(), Fail> {
+    let alloc = rt.alloc();
+    let (hub, mut pass) = failing(alloc, SHAPE, 3)?;
+    assert!(rt;
+        put_once(&rt, alloc, SHAPE, &hub, &mut pass, 1) == Some(Err(AppendRefusal::Device))
+    );
+    let stopped = AppendRefusal::Stopped { at: 1 };
+    assert!(rt; put_once(&rt, alloc, SHAPE, &hub, &mut pass, 2) == Some(Err(stopped)));
+    assert!(rt; hub.end(&rt, &mut pass, 1) == Ok(()));
+    let trace = hub.trace(&rt, &mut pass)?;
+    let wanted = [
+        Event::Begin { client: 1 },
+        Event::Begin { client: 2 },
+        Event::End { client: 1 },
+    ];
+    assert!(rt; trace.as_slice() == wanted.as_slice());
+    let closed = hub.close(pass);
+    assert!(rt; closed.log.stopped() == Some(1));
+    assert!(rt; closed.entries.len() == 0);
+    let disk = closed.log.close();
+    let Ok(again) = open_log(alloc, disk.stop(1), Some(SHAPE)) else {
+        return Err("not opened")?;
+    };
+    assert!(rt; again.len() == 1);
+    Ok(())
+}
+
+#[test]
+fn a_pad_that_fails_leaves_some_fillers(rt: HostRuntime) -> Result<(), Fail> {
+    let alloc = rt.alloc();
+    let (hub, mut pass) = failing(alloc, FOURS, 9)?;
+    assert!(rt; put_once(&rt, alloc, FOURS, &hub, &mut pass, 1) == Some(Ok(1)));
+    assert!(rt; hub.pad(&rt, &mut pass, 1) == Err(PadRefusal::Device));
+    assert!(rt; hub.pad(&rt, &mut pass, 1) == Err(PadRefusal::Stopped { at: 3 }));
+    let closed = hub.close(pass);
+    assert!(rt; closed.entries.len() == 1);
+    assert!(rt; closed.log.len() == 2);
+    Ok(())
+}
+
+// A client's programs, one after another, each begun once its server has published the one before.
+fn run_client<D: Disk, R: Threads + Wait + Sync>(
+    rt: &R,
+    alloc: Global,
+    hub: &Hub<D>,
+    pass: &mut Pass<Contents<D>>,
+    client: u8,
+) -> Option<()>
+    requires trial { IsTrial hub.now SHAPE pass.old }
+    requires client { IsWithin 1 2 client }
+    ensures trial { IsTrial hub.now SHAPE pass.new }
+    ensures parts { pass.new.parts ≡ pass.old.parts }
+{
+    for _program in 0..3 {
+        put_once(rt, alloc, SHAPE, hub, pass, client)?.ok()?;
+        catch_up(rt, alloc, SHAPE, hub, pass, client)?.ok()?;
+    }
+    Some(())
+}
+
+// Both clients, each with a pass of its own.
+fn run_both<R: Threads + Wait + Sync>(rt: &R, alloc: Global) -> Result<Events, Fail> {
+    let (hub, mut one) = start(alloc, SHAPE)?;
+    let mut other = hub.split(&mut one, 1);
+    let first = run_client(rt, alloc, &hub, &mut one, 1);
+    let second = run_client(rt, alloc, &hub, &mut other, 2);
+    hub.join(&mut one, other);
+    let (Some(()), Some(())) = (first, second) else {
+        return Err("a client is not done")?;
+    };
+    Ok(hub.trace(rt, &mut one)?)
+}
+
+#[test]
+fn two_passes_run_their_clients(rt: HostRuntime) -> Result<(), Fail> {
+    let trace = run_both(&rt, rt.alloc())?;
+    for client in [1, 2] {
+        let begun = trace
+            .as_slice()
+            .iter()
+            .filter(|event| **event == Event::Begin { client })
+            .count();
+        assert_eq!(rt; begun, 3);
+        let appended = trace
+            .as_slice()
+            .iter()
+            .filter(|event| **event == Event::Append { client })
+            .count();
+        assert_eq!(rt; appended, 3);
+    }
+    Ok(())
+}
+
+// A client whose programs run on a thread, with a pass of its own.
+#[derive(Drop)]
+struct Errand<D: Disk> {
+    client: u8,
+    pass: Pass<Contents<D>>,
+    done: bool,
+}
+
+fn run_errand<D: Disk, R: Threads + Wait + Sync>(
+    rt: &R,
+    alloc: Global,
+    hub: &Hub<D>,
+    errand: &mut Errand<D>,
+)
+    requires client { IsWithin 1 2 errand.old.client }
+    requires trial { IsTrial hub.now SHAPE errand.old.pass }
+    ensures trial { IsTrial hub.now SHAPE errand.new.pass }
+{
+    let client = errand.client;
+    let ran = run_client(rt, alloc, hub, &mut errand.pass, client);
+    errand.done = ran.is_some();
+}
+
+// Runs the errands beside each other, on two threads.
+fn run_errands<D: Disk + Send, R: Threads + Wait + Sync>(
+    rt: &R,
+    alloc: Global,
+    hub: &Hub<D>,
+    errands: &mut [Errand<D>],
+)
+    requires clients { All (λ errand. IsWithin 1 2 errand.client) errands.old }
+    requires trial { All (λ errand. IsTrial hub.now SHAPE errand.pass) errands.old }
+    ensures trial { All (λ errand. IsTrial hub.now SHAPE errand.pass) errands.new }
+    ensures count { length errands.new ≡ length errands.old }
+{
+    thread::for_each_mut(
+        rt,
+        errands,
+        2,
+        &|_, errand: &mut Errand<D>|
+            requires { IsWithin 1 2 errand.now.client × IsTrial hub.now SHAPE errand.now.pass }
+            ensures { IsTrial hub.entry.now SHAPE errand.exit.now.pass }
+        { run_errand(rt, alloc, hub, errand) },
+    );
+}
+
+// Takes in the pass of the last errand. Whether there was one, and its client is done.
+fn join_last<D: Disk>(
+    hub: &Hub<D>,
+    pass: &mut Pass<Contents<D>>,
+    errands: &mut Vec<Errand<D>>,
+) -> bool
+    requires pass { IsIdle hub.now pass.old }
+    requires trial { All (λ errand. IsTrial hub.now SHAPE errand.pass) errands.old.items }
+    ensures pass { IsIdle hub.now pass.new }
+    ensures trial { All (λ errand. IsTrial hub.now SHAPE errand.pass) errands.new.items }
+{
+    match errands.pop() {
+        Some(errand) => {
+            let Errand {
+                client: _,
+                pass: own,
+                done,
+            } = errand;
+            hub.join(pass, own);
+            done
+        }
+        None => false,
+    }
+}
+
+// Both clients beside each other, each with a pass of its own.
+fn run_beside<R: Threads + Wait + Sync>(rt: &R, alloc: Global) -> Result<Events, Fail> {
+    let (hub, mut pass) = start(alloc, SHAPE)?;
+    let one = Errand {
+        client: 1,
+        pass: hub.split(&mut pass, 1),
+        done: false,
+    };
+    let other = Errand {
+        client: 2,
+        pass: hub.split(&mut pass, 1),
+        done: false,
+    };
+    let mut errands = vec![in alloc; one, other]?;
+    run_errands(rt, alloc, &hub, &mut errands);
+    let other_done = join_last(&hub, &mut pass, &mut errands);
+    let one_done = join_last(&hub, &mut pass, &mut errands);
+    if !one_done || !other_done {
+        return Err("a client is not done")?;
+    }
+    Ok(hub.trace(rt, &mut pass)?)
+}
+
+// How far a client and its server have come.
+#[derive(Clone, Copy)]
+struct Side {
+    board: Pos,
+    runs: bool,
+    left: u8,
+    last: Pos,
+}
+
+// How long the log is, and how far each client has come with its server.
+#[derive(Clone, Copy)]
+struct Course {
+    len: Pos,
+    one: Side,
+    two: Side,
+}
+
+const AT_FIRST: Side = Side {
+    board: 0,
+    runs: false,
+    left: 3,
+    last: 0,
+};
+
+fn side_of(course: Course, number: u8) -> Option<Side> {
+    match number {
+        1 => Some(course.one),
+        2 => Some(course.two),
+        _ => None,
+    }
+}
+
+fn with_side(course: Course, number: u8, side: Side) -> Course {
+    if number == 1 {
+        Course {
+            one: side,
+            ..course
+        }
+    } else {
+        Course {
+            two: side,
+            ..course
+        }
+    }
+}
+
+// How much of a group stands at the end of this many entries.
+fn part_of(len: Pos, shape: Shape) -> Pos {
+    let group = Pos::from(shape.group);
+    if group == 0 { 0 } else { len % group }
+}
+
+fn begun(side: Side) -> Option<Side> {
+    if side.runs || side.left == 0 || side.board < side.last {
+        return None;
+    }
+    Some(Side { runs: true, ..side })
+}
+
+fn appended(side: Side, at: Pos) -> Option<Side> {
+    if !side.runs || side.left == 0 {
+        return None;
+    }
+    Some(Side {
+        runs: false,
+        left: side.left - 1,
+        last: at,
+        ..side
+    })
+}
+
+fn published(side: Side, upto: Pos, len: Pos, shape: Shape) -> Option<Side> {
+    if upto <= side.board || len < upto || part_of(upto, shape) != 0 {
+        return None;
+    }
+    Some(Side {
+        board: upto,
+        ..side
+    })
+}
+
+// The length once the last group is whole. None where it is so already.
+fn padded(len: Pos, shape: Shape) -> Option<Pos> {
+    let part = part_of(len, shape);
+    if part == 0 {
+        return None;
+    }
+    let lack = Pos::from(shape.group).checked_sub(part)?;
+    len.checked_add(lack)
+}
+
+// Where an event leads. None where it may not happen, or doesn't come in these runs.
+fn after(course: Course, event: Event, shape: Shape) -> Option<Course> {
+    match event {
+        Event::Begin { client } => {
+            let side = begun(side_of(course, client)?)?;
+            Some(with_side(course, client, side))
+        }
+        Event::Append { client } => {
+            if course.len >= shape.cap {
+                return None;
+            }
+            let len = course.len + 1;
+            let side = appended(side_of(course, client)?, len)?;
+            Some(with_side(Course { len, ..course }, client, side))
+        }
+        Event::Publish { server, upto } => {
+            let side = published(side_of(course, server)?, upto, course.len, shape)?;
+            Some(with_side(course, server, side))
+        }
+        Event::Pad { server } => {
+            let _ = side_of(course, server)?;
+            let len = padded(course.len, shape)?;
+            Some(Course { len, ..course })
+        }
+        Event::End { .. } | Event::Refuse { .. } | Event::Stop { .. } => None,
+    }
+}
+
+// Where a trace leads from an empty log. None where one of its events may not happen.
+fn course_of(shape: Shape, trace: &[Event]) -> Option<Course> {
+    let mut course = Course {
+        len: 0,
+        one: AT_FIRST,
+        two: AT_FIRST,
+    };
+    for event in trace {
+        course = after(course, *event, shape)?;
+    }
+    Some(course)
+}
+
+fn count_of(trace: &[Event], wanted: Event) -> usize {
+    trace.iter().filter(|event| **event == wanted).count()
+}
+
+#[test]
+fn two_threads_run_their_clients(rt: HostRuntime) -> Result<(), Fail> {
+    let trace = run_beside(&rt, rt.alloc())?;
+    for client in [1, 2] {
+        assert_eq!(rt; count_of(trace.as_slice(), Event::Begin { client }), 3);
+        assert_eq!(rt; count_of(trace.as_slice(), Event::Append { client }), 3);
+    }
+    let course = course_of(SHAPE, trace.as_slice()).expect(&rt, "a legal trace");
+    assert_eq!(rt; course.len, 6);
+    for side in [course.one, course.two] {
+        assert!(rt; side.left == 0 && !side.runs && side.board >= side.last);
+    }
+    Ok(())
+}
+
+#[test]
+fn a_trace_out_of_order_is_not_legal(rt: HostRuntime) -> Result<(), Fail> {
+    let begin = Event::Begin { client: 1 };
+    let append = Event::Append { client: 1 };
+    let publish = Event::Publish { server: 1, upto: 1 };
+    assert!(rt; course_of(SHAPE, &[begin, append, publish, begin]).is_some());
+    assert!(rt; course_of(SHAPE, &[begin, begin]).is_none());
+    assert!(rt; course_of(SHAPE, &[append]).is_none());
+    assert!(rt; course_of(SHAPE, &[begin, append, begin]).is_none());
+    assert!(rt; course_of(SHAPE, &[begin, publish]).is_none());
+    assert!(rt; course_of(SHAPE, &[begin, append, publish, publish]).is_none());
+    assert!(rt; course_of(SHAPE, &[Event::Pad { server: 1 }]).is_none());
+    Ok(())
+}

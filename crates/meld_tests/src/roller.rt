@@ -1,0 +1,382 @@
+//! Small logs, rolled whole and in every cut.
+ghost use Rattle.std.specs.Prelude.{◌≡◌, ◌≤◌, IfOk};
+ghost use Rattle.hy_base.specs.Shape.{IsGoodShape};
+
+use hy_pipe::*;
+use hy_base::{
+    Clash, Entry, Intention, Key, Points, Pos, Shape, Shared, Span, Spans, Value, ValueError,
+    Verdict, Write, Writes,
+};
+use hy_tree::Tree;
+use std::alloc::{AllocError, Global};
+use std::sync::atomic::{AtomicU32, Ordering};
+use std::test::Fail;
+use std::thread::Threads;
+
+// A transaction's snapshot, the keys that it read, the key that it writes, and the byte that it puts there; none deletes it.
+type Txn = (Pos, Key, Key, Key, Option<u8>);
+
+// A position of a log. A filler is none.
+type Item = Option<Txn>;
+
+fn value(alloc: Global, byte: Option<u8>) -> Result<Option<Value>, Fail> {
+    let Some(byte) = byte else {
+        return Ok(None);
+    };
+    match Value::new(vec![in alloc; byte; 1]?) {
+        Ok(value) => Ok(Some(value)),
+        Err(ValueError::BadValue) => Err(Fail::new("the value is refused")),
+        Err(ValueError::Memory) => Err(Fail::from(AllocError)),
+    }
+}
+
+fn transaction(alloc: Global, txn: Txn) -> Result<Entry, Fail> {
+    let (snap, lo, hi, key, byte) = txn;
+    if hi < lo {
+        return Err(Fail::new("the span has no keys"));
+    }
+    let value = value(alloc, byte)?;
+    Ok(Entry::transaction(Intention {
+        server: 1,
+        client: 1,
+        snap,
+        points: Points::new(alloc),
+        spans: Spans::from_vec(vec![in alloc; Span { lo, hi }]?),
+        writes: Writes::from_vec(vec![in alloc; Write { key, value }]?),
+    }))
+}
+
+fn entry(alloc: Global, item: Item) -> Result<Shared<Entry>, Fail> {
+    let entry = match item {
+        None => Entry::filler(1),
+        Some(txn) => transaction(alloc, txn)?,
+    };
+    Ok(Shared::new(alloc, entry)?)
+}
+
+fn log(alloc: Global, items: &[Item]) -> Result<Vec<Shared<Entry>>, Fail> {
+    let mut entries = Vec::new(alloc);
+    for &item in items {
+        entries.push(entry(alloc, item)?)?;
+    }
+    Ok(entries)
+}
+
+// A roll further, if the entries are whole groups and have room.
+fn further<R: Threads + Sync, G: Gate + Sync>(
+    rt: &R,
+    alloc: Global,
+    shape: Shape,
+    roller: &Roller,
+    entries: &[Shared<Entry>],
+    gate: &G,
+) -> Result<Roller, Fail>
+    requires good { IsGoodShape shape }
+    requires same { roller.now.shape ≡ shape }
+    ensures { IfOk result (λ r. r.shape ≡ shape) }
+{
+    if entries.len() % usize::from(shape.group) != 0 {
+        return Err(Fail::new("a group is cut"));
+    }
+    let room = shape.cap.saturating_sub(roller.at()) as usize;
+    if room < entries.len() || shape.cap < roller.at() {
+        return Err(Fail::new("the log is full"));
+    }
+    Ok(roller.roll(rt, alloc, entries, 2, gate)?)
+}
+
+fn shape(group: u8, window: u8, cap: Pos) -> Result<Shape, Fail>
+    ensures { IfOk result IsGoodShape }
+{
+    let shape = Shape { group, window, cap };
+    match shape.check() {
+        Ok(()) => Ok(shape),
+        Err(_) => Err(Fail::new("the shape is refused")),
+    }
+}
+
+fn rolled<R: Threads + Sync>(
+    rt: &R,
+    alloc: Global,
+    shape: Shape,
+    items: &[Item],
+) -> Result<Roller, Fail>
+    requires { IsGoodShape shape }
+{
+    let entries = log(alloc, items)?;
+    let roller = Roller::new(alloc, shape)?;
+    further(rt, alloc, shape, &roller, &entries, &OpenGate)
+}
+
+// Whether these are the verdicts from position 1 on.
+fn tells(roller: &Roller, verdicts: &[Option<Verdict>]) -> bool {
+    let told = (1..).zip(verdicts.iter().copied());
+    told.fold(true, |all, (pos, verdict)| {
+        all && roller.verdict(pos) == Told::Known(verdict)
+    })
+}
+
+// Whether these are the rows: key, writer, and whether there is a value.
+fn has(tree: &Tree, rows: &[(Key, Pos, bool)]) -> bool {
+    for &(key, writer, live) in rows {
+        let Some(row) = tree.get(key) else {
+            return false;
+        };
+        if row.writer != writer || row.value.is_some() != live {
+            return false;
+        }
+    }
+    tree.row_count() == rows.len() as u64
+}
+
+const ONE: Option<u8> = Some(b'1');
+
+// Key 7 is read on the empty snapshot, and written.
+const SUM: Item = Some((0, 7, 7, 7, ONE));
+
+fn last(key: Key, by: Pos) -> Option<Verdict> {
+    Some(Verdict::Final(Clash { key, by }))
+}
+
+fn early(key: Key, by: Pos) -> Option<Verdict> {
+    Some(Verdict::Pre(Clash { key, by }))
+}
+
+const COMMIT: Option<Verdict> = Some(Verdict::Commit);
+
+// Whether a log of a shape with room for 8 has these verdicts, and leaves these rows.
+fn decides<R: Threads + Sync>(
+    rt: &R,
+    alloc: Global,
+    group: u8,
+    window: u8,
+    items: &[Item],
+    verdicts: &[Option<Verdict>],
+    rows: &[(Key, Pos, bool)],
+) -> Result<bool, Fail> {
+    let roller = rolled(rt, alloc, shape(group, window, 8)?, items)?;
+    Ok(tells(&roller, verdicts) && has(roller.tree(), rows) && bounds(&roller))
+}
+
+// What it tells outside the positions that it has rolled.
+fn bounds(roller: &Roller) -> bool {
+    let at = roller.at();
+    let next = at.saturating_add(1);
+    roller.verdict(0) == Told::Past { from: 0 } && roller.verdict(next) == Told::NotYet { at }
+}
+
+#[test]
+fn later_sums_abort(rt: HostRuntime) -> Result<(), Fail> {
+    let verdicts = [COMMIT, last(7, 1), early(7, 1)];
+    let rows = [(7, 1, true)];
+    assert!(rt; decides(&rt, rt.alloc(), 1, 1, &[SUM, SUM, SUM], &verdicts, &rows)?);
+    Ok(())
+}
+
+#[test]
+fn a_scan_meets_a_put_and_a_deletion(rt: HostRuntime) -> Result<(), Fail> {
+    let put = Some((0, 15, 15, 15, ONE));
+    let deletion = Some((1, 15, 15, 15, None));
+    let items = [put, deletion, Some((0, 10, 20, 100, ONE))];
+    let rows = [(15, 2, false)];
+    for (window, third) in [(1, early(15, 1)), (4, last(15, 2))] {
+        let verdicts = [COMMIT, COMMIT, third];
+        assert!(rt; decides(&rt, rt.alloc(), 1, window, &items, &verdicts, &rows)?);
+    }
+    Ok(())
+}
+
+#[test]
+fn a_scan_ends_at_the_last_key_that_it_gave(rt: HostRuntime) -> Result<(), Fail> {
+    let scan = Some((1, 0, 3, 100, ONE));
+    let items = [Some((0, 3, 3, 3, ONE)), Some((1, 4, 4, 4, ONE)), scan];
+    let rows = [(3, 1, true), (4, 2, true), (100, 3, true)];
+    assert!(rt;
+        decides(
+            &rt,
+            rt.alloc(),
+            1,
+            1,
+            &items,
+            &[COMMIT, COMMIT, COMMIT],
+            &rows
+        )?
+    );
+
+    let items = [Some((0, 3, 3, 3, ONE)), Some((1, 2, 2, 2, ONE)), scan];
+    let rows = [(2, 2, true), (3, 1, true)];
+    assert!(rt;
+        decides(
+            &rt,
+            rt.alloc(),
+            1,
+            1,
+            &items,
+            &[COMMIT, COMMIT, last(2, 2)],
+            &rows
+        )?
+    );
+    Ok(())
+}
+
+// Key 1 is written on the empty snapshot; so is key 5, after key 1 was read; and key 9.
+const PUT: Item = Some((0, 1, 1, 1, ONE));
+
+const READ: Item = Some((0, 1, 1, 5, ONE));
+
+const OTHER: Item = Some((0, 9, 9, 9, ONE));
+
+#[test]
+fn members_meet(rt: HostRuntime) -> Result<(), Fail> {
+    let mate = Some(Verdict::Mate(Clash { key: 1, by: 1 }));
+    let rows = [(1, 1, true)];
+    assert!(rt; decides(&rt, rt.alloc(), 2, 1, &[PUT, PUT], &[COMMIT, mate], &rows)?);
+    Ok(())
+}
+
+#[test]
+fn joined_members_share_a_fate(rt: HostRuntime) -> Result<(), Fail> {
+    let items = [PUT, None, READ, OTHER];
+    let verdicts = [COMMIT, None, last(1, 1), last(1, 1)];
+    assert!(rt; decides(&rt, rt.alloc(), 2, 1, &items, &verdicts, &[(1, 1, true)])?);
+    Ok(())
+}
+
+#[test]
+fn a_dropped_member_dooms_none(rt: HostRuntime) -> Result<(), Fail> {
+    let items = [PUT, None, Some((0, 50, 50, 50, ONE)), None, READ, OTHER];
+    let verdicts = [COMMIT, None, COMMIT, None, early(1, 1), COMMIT];
+    let rows = [(1, 1, true), (9, 6, true), (50, 3, true)];
+    assert!(rt; decides(&rt, rt.alloc(), 2, 1, &items, &verdicts, &rows)?);
+    Ok(())
+}
+
+// A log of 24 positions, with snapshots up to six positions back.
+fn item(number: u32) -> Item
+    requires { number ≤ 24 }
+{
+    if number % 7 == 6 {
+        return None;
+    }
+    let snap = (number / 2 * 2).saturating_sub(number % 4 * 2);
+    let read = Key::from(number * 5 % 6);
+    let byte = if number % 5 == 4 { None } else { ONE };
+    Some((snap, read, read, Key::from(number * 7 % 6), byte))
+}
+
+fn mixed(alloc: Global) -> Result<Vec<Shared<Entry>>, Fail> {
+    let mut entries = Vec::new(alloc);
+    for number in 0..24 {
+        entries.push(entry(alloc, item(number))?)?;
+    }
+    Ok(entries)
+}
+
+fn writer(tree: &Tree, key: Key) -> Pos {
+    tree.get(key).map_or(0, |row| row.writer)
+}
+
+fn are_same(one: &Roller, other: &Roller) -> bool {
+    let mut same = one.at() == other.at();
+    for key in 0..6 {
+        same = same && writer(one.tree(), key) == writer(other.tree(), key);
+        same = same && writer(one.base_tree(), key) == writer(other.base_tree(), key);
+    }
+    for pos in 0..26 {
+        same = same && one.verdict(pos) == other.verdict(pos);
+    }
+    same
+}
+
+// Counts the groups that enter, and adds up their numbers.
+#[derive(Drop)]
+struct Counts {
+    entered: AtomicU32,
+    numbers: AtomicU32,
+}
+
+impl Gate for Counts {
+    fn enter(&self, group: u32) {
+        self.entered.fetch_add(1, Ordering::SeqCst);
+        self.numbers.fetch_add(group, Ordering::SeqCst);
+    }
+
+    fn client(&self, _client: u32) {}
+}
+
+// The entries rolled in two parts, the first of so many.
+fn in_parts<R: Threads + Sync, G: Gate + Sync>(
+    rt: &R,
+    alloc: Global,
+    shape: Shape,
+    entries: &[Shared<Entry>],
+    place: usize,
+    gate: &G,
+) -> Result<Roller, Fail>
+    requires { IsGoodShape shape }
+{
+    if entries.len() < place {
+        return Err(Fail::new("the log is shorter"));
+    }
+    let (front, back) = entries.split_at(place);
+    let roller = Roller::new(alloc, shape)?;
+    let part = further(rt, alloc, shape, &roller, front, gate)?;
+    further(rt, alloc, shape, &part, back, gate)
+}
+
+// One more of the roller of both parts is the same as the whole.
+fn is_cut_well<R: Threads + Sync>(
+    rt: &R,
+    alloc: Global,
+    shape: Shape,
+    entries: &[Shared<Entry>],
+    whole: &Roller,
+    place: usize,
+) -> Result<bool, Fail>
+    requires { IsGoodShape shape }
+{
+    let both = in_parts(rt, alloc, shape, entries, place, &OpenGate)?;
+    let again = both.share()?;
+    Ok(are_same(whole, &again))
+}
+
+// Whether each cut of the log rolls as the whole.
+fn are_cut_well<R: Threads + Sync>(
+    rt: &R,
+    alloc: Global,
+    shape: Shape,
+    entries: &[Shared<Entry>],
+    whole: &Roller,
+) -> Result<bool, Fail>
+    requires { IsGoodShape shape }
+{
+    for place in [0, 2, 4, 6, 10, 12, 18, 24] {
+        if !is_cut_well(rt, alloc, shape, entries, whole, place)? {
+            return Ok(false);
+        }
+    }
+    Ok(true)
+}
+
+#[test]
+fn each_cut_rolls_the_same(rt: HostRuntime) -> Result<(), Fail> {
+    let shape = shape(2, 2, 24)?;
+    let entries = mixed(rt.alloc())?;
+    let whole = in_parts(&rt, rt.alloc(), shape, &entries, 24, &OpenGate)?;
+    assert!(rt; are_cut_well(&rt, rt.alloc(), shape, &entries, &whole)?);
+    Ok(())
+}
+
+#[test]
+fn each_group_enters_once(rt: HostRuntime) -> Result<(), Fail> {
+    let gate = Counts {
+        entered: AtomicU32::new(0),
+        numbers: AtomicU32::new(0),
+    };
+    let entries = mixed(rt.alloc())?;
+    let roller = in_parts(&rt, rt.alloc(), shape(2, 2, 24)?, &entries, 6, &gate)?;
+    assert_eq!(rt; roller.at(), 24);
+    assert_eq!(rt; gate.entered.load(Ordering::SeqCst), 12);
+    assert_eq!(rt; gate.numbers.load(Ordering::SeqCst), 78);
+    Ok(())
+}
