@@ -1,5 +1,8 @@
-use hy_codec::*;
-use hy_base::{Entry, EntryKind, Shape};
+//! Entries as bytes, both ways, and damaged fields.
+ghost use Rattle.hy_base.specs.Shape.{IsWithin};
+
+use hy_base::{Entry, Shape};
+use hy_codec::{DecodeError, decode, decode_at, encode};
 use hy_rules::{BadEntry, Damage};
 use std::alloc::Global;
 use std::test::Fail;
@@ -25,6 +28,9 @@ const SPANS: [u8; 51] = [
     7, 0, 0, 0, 0, 0, 0, 0, 0, // from byte 42
 ];
 
+// A filler of server 3.
+const FILLER: [u8; 10] = [0, 3, 0, 0, 0, 0, 0, 0, 0, 0];
+
 // Where the bytes are refused, and why.
 fn refusal(alloc: Global, bytes: &[u8]) -> Option<(usize, Damage)> {
     match decode(alloc, bytes) {
@@ -43,19 +49,27 @@ fn front(bytes: &[u8], size: usize) -> &[u8] {
     &bytes[..size.min(bytes.len())]
 }
 
+// The bytes, read and written again.
+fn respelled(alloc: Global, bytes: &[u8]) -> Result<Vec<u8>, Fail> {
+    let entry = decode(alloc, bytes)?;
+    Ok(encode(alloc, &entry)?)
+}
+
+// The spelling of a filler.
+fn filler(alloc: Global, server: u8) -> Result<Vec<u8>, Fail>
+    requires { IsWithin 1 8 server }
+{
+    Ok(encode(alloc, &Entry::filler(server))?)
+}
+
 #[test]
 fn what_is_read_is_written(rt: HostRuntime) -> Result<(), Fail> {
-    let entry = decode(rt.alloc(), &ONE_PUT)?;
-    assert_eq!(rt; encode(rt.alloc(), &entry)?.as_slice(), ONE_PUT.as_slice());
-    let entry = decode(rt.alloc(), &READS)?;
-    assert_eq!(rt; encode(rt.alloc(), &entry)?.as_slice(), READS.as_slice());
-    let bytes = encode(rt.alloc(), &Entry::filler(3))?;
-    assert_eq!(rt;
-        bytes.as_slice(),
-        [0u8, 3, 0, 0, 0, 0, 0, 0, 0, 0].as_slice()
-    );
-    let filler = decode(rt.alloc(), &bytes)?;
-    assert!(rt; matches!(filler.kind(), EntryKind::Filler { server: 3 }));
+    for bytes in [ONE_PUT.as_slice(), READS.as_slice()] {
+        assert_eq!(rt; respelled(rt.alloc(), bytes)?.as_slice(), bytes);
+    }
+    let bytes = filler(rt.alloc(), 3)?;
+    assert_eq!(rt; bytes.as_slice(), FILLER.as_slice());
+    assert_eq!(rt; respelled(rt.alloc(), &FILLER)?.as_slice(), FILLER.as_slice());
     Ok(())
 }
 

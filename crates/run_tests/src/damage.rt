@@ -1,7 +1,6 @@
 //! Calls of `recover` and `check` over logs that are good, damaged, or on a device that fails.
-use crate::calls::{Answer, call, fine, told};
+use crate::calls::{Answer, call, fine, roomy, told};
 use crate::logs::{CHECK, DUMP, NONE, one_entry, one_put};
-use crate::roomy;
 use hy_base::Pos;
 use hy_disk::{Disk, Tuned};
 use hy_io::{MemSink, MemSource};

@@ -1,7 +1,6 @@
 //! Calls of `run`, and what they leave for the next one, for `recover` and for `check`.
-use crate::calls::{Answer, RUN, ask, call, empty, fine, told};
+use crate::calls::{Answer, RUN, ask, call, empty, fine, roomy, told};
 use crate::logs::{CHECK, DUMP, NO_CLIENT, ONE_PUT, one_put};
-use crate::roomy;
 use hy_base::{Field, Pos};
 use hy_io::{MemSink, MemSource};
 use hy_mem::MemDisk;

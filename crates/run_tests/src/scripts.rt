@@ -1,10 +1,22 @@
 //! Random scripts of several clients.
-use crate::draw;
+ghost use Rattle.std.specs.Prelude.{◌<◌};
+
 use std::alloc::Global;
 use std::test::Fail;
 
 /// How many runs go over one log. In each of them four other clients have programs.
 pub const RUNS: usize = 4;
+
+// Draws the next number below a limit, and puts the state on. One state gives one row of numbers.
+fn draw(state: &mut u64, limit: u64) -> u64
+    requires { 0 < limit }
+    ensures { result < limit }
+{
+    *state = state
+        .wrapping_mul(6364136223846793005)
+        .wrapping_add(1442695040888963407);
+    (*state >> 33) % limit
+}
 
 fn command(alloc: Global, state: &mut u64) -> Result<String, Fail> {
     let key = draw(state, 12);

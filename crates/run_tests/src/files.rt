@@ -1,12 +1,12 @@
 //! Runs on one file, judged by the traces that they print.
+use crate::calls::call_on;
 use crate::scripts::{RUNS, Scripts};
-use hy_base::Words;
 use hy_disk::Disk;
 use hy_file::FileDisk;
 use hy_io::{MemSink, MemSource};
 use hy_mem::MemDisk;
 use hy_pipe::OpenGate;
-use hy_run::{Status, hyder_call};
+use hy_run::Status;
 use std::alloc::Global;
 use std::sync::Wait;
 use std::test::Fail;
@@ -26,13 +26,10 @@ fn told<R: Threads + Wait + Sync, D: Disk + Drop + Send>(
     log: D,
     points: D,
 ) -> Result<String, Fail> {
-    let mut words = Words::new(alloc);
-    words.push("hyder")?;
-    words.push(command)?;
     let mut source = MemSource::new(alloc, script.as_bytes(), 1000, &[])?;
     let mut sink = MemSink::new(alloc, 100000, 1000, &[])?;
-    let gate = &OpenGate;
-    let done = hyder_call(rt, alloc, &words, &mut source, &mut sink, log, points, gate);
+    let devices = (log, points);
+    let done = call_on(rt, alloc, &[command], &mut source, &mut sink, devices, &OpenGate)?;
     if done.status != Status::Fine {
         return Err("a call does not end well")?;
     }

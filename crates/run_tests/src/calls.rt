@@ -1,17 +1,31 @@
-//! Calls over a log in memory.
-use crate::roomy;
+//! Calls of the program, over devices in memory or others. One function makes them all: what it says of them is the answer alone.
+ghost use Rattle.std.specs.Prelude.{◌≡◌, IfOk};
+ghost use Rattle.hy_disk.specs.Content.{settled};
+ghost use Rattle.hy_mem.specs.MemDisk.{content_of, HasRoom};
+
 use hy_base::{Pos, Words};
-use hy_disk::Disk;
+use hy_disk::{Disk, Tuned};
 use hy_io::{MemSink, MemSource};
 use hy_mem::MemDisk;
 use hy_pipe::{Gate, OpenGate};
 use hy_run::{Done, Status, hyder_call};
-use std::alloc::Global;
+use std::alloc::{AllocError, Global};
 use std::sync::Wait;
 use std::test::Fail;
 use std::thread::Threads;
 
 pub const RUN: &[&str] = &["run"];
+
+/// A device with these bytes, all of them synced, and with room for 200 writes and syncs of 65,536 bytes. Want of memory is
+/// the one error.
+pub fn roomy(alloc: Global, bytes: &[u8]) -> Result<MemDisk, AllocError>
+    ensures content { IfOk result (λ disk. content_of disk ≡ settled bytes.now) }
+    ensures room { IfOk result (λ disk. HasRoom disk 200 65536) }
+{
+    let mut disk = MemDisk::new(alloc, bytes, &[])?;
+    disk.room(65536, 200)?;
+    Ok(disk)
+}
 
 /// An empty device with ample room.
 pub fn empty(alloc: Global) -> Result<MemDisk, Fail> {
@@ -28,7 +42,22 @@ fn words_of(alloc: Global, asked: &[&str]) -> Result<Words, Fail> {
     Ok(words)
 }
 
-/// A call over a log, with this source, sink and gate.
+/// A call over two devices, with this source, sink and gate.
+pub fn call_on<R: Threads + Wait + Sync, D: Disk + Drop + Send, G: Gate + Sync>(
+    rt: &R,
+    alloc: Global,
+    asked: &[&str],
+    source: &mut MemSource,
+    sink: &mut MemSink,
+    devices: (D, D),
+    gate: &G,
+) -> Result<Done<D>, Fail> {
+    let words = words_of(alloc, asked)?;
+    let (log, points) = devices;
+    Ok(hyder_call(rt, alloc, &words, source, sink, log, points, gate))
+}
+
+/// A call over a log in memory, with this source, sink and gate, which leaves the other device alone.
 pub fn call<R: Threads + Wait + Sync, G: Gate + Sync>(
     rt: &R,
     alloc: Global,
@@ -38,9 +67,8 @@ pub fn call<R: Threads + Wait + Sync, G: Gate + Sync>(
     log: MemDisk,
     gate: &G,
 ) -> Result<Done<MemDisk>, Fail> {
-    let words = words_of(alloc, asked)?;
     let points = MemDisk::new(alloc, b"points", &[1])?;
-    let done = hyder_call(rt, alloc, &words, source, sink, log, points, gate);
+    let done = call_on(rt, alloc, asked, source, sink, (log, points), gate)?;
     if done.points.faults() != 0 {
         return Err("the other device was used")?;
     }
