@@ -1,18 +1,11 @@
 //! Small transactions against the rows at a base.
+use crate::values::value;
 use hy_premeld::*;
-use hy_base::{Clash, Intention, Key, Points, Pos, Span, Spans, Value, ValueError, Write, Writes};
+use hy_base::{Clash, Intention, Key, Points, Pos, Span, Spans, Write, Writes};
 use hy_mark::Marks;
 use hy_tree::Tree;
-use std::alloc::{AllocError, Global};
+use std::alloc::Global;
 use std::test::Fail;
-
-fn value(alloc: Global, byte: u8) -> Result<Option<Value>, Fail> {
-    match Value::new(vec![in alloc; byte; 1]?) {
-        Ok(value) => Ok(Some(value)),
-        Err(ValueError::BadValue) => Ok(None),
-        Err(ValueError::Memory) => Err(Fail::from(AllocError)),
-    }
-}
 
 // Key 5 was put at position 2, and key 7 deleted at position 4.
 fn at_base(alloc: Global) -> Result<Tree, Fail> {

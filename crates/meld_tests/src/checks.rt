@@ -1,22 +1,15 @@
 //! Small trees against the marks of a transaction.
+use crate::values::value;
 use hy_meld::*;
 use hy_base::{
-    Clash, Intention, Key, Points, Pos, Row, Span, Spans, Value, ValueError, Write, Writes,
+    Clash, Intention, Key, Points, Pos, Row, Span, Spans, Write, Writes,
 };
 use hy_mark::Marks;
 use hy_tree::Tree;
-use std::alloc::{AllocError, Global};
+use std::alloc::Global;
 use std::test::Fail;
 
 const LAST: Key = u64::MAX;
-
-fn value(alloc: Global, byte: u8) -> Result<Option<Value>, Fail> {
-    match Value::new(vec![in alloc; byte; 1]?) {
-        Ok(value) => Ok(Some(value)),
-        Err(ValueError::BadValue) => Ok(None),
-        Err(ValueError::Memory) => Err(Fail::from(AllocError)),
-    }
-}
 
 // Key 2 was put at position 3, key 6 deleted at 4, key 9 put at 1, and the greatest key put at 5.
 fn state(alloc: Global) -> Result<Tree, Fail> {

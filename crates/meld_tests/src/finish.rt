@@ -1,21 +1,14 @@
 //! Small groups on rows before them.
+use crate::values::value;
 use hy_final::*;
 use hy_base::{
-    Clash, Intention, Key, Member, Points, Pos, Span, Spans, Value, ValueError, Verdict, Write,
+    Clash, Intention, Key, Member, Points, Pos, Span, Spans, Verdict, Write,
     Writes,
 };
 use hy_mark::Marks;
 use hy_tree::Tree;
-use std::alloc::{AllocError, Global};
+use std::alloc::Global;
 use std::test::Fail;
-
-fn value(alloc: Global, byte: u8) -> Result<Option<Value>, Fail> {
-    match Value::new(vec![in alloc; byte; 1]?) {
-        Ok(value) => Ok(Some(value)),
-        Err(ValueError::BadValue) => Ok(None),
-        Err(ValueError::Memory) => Err(Fail::from(AllocError)),
-    }
-}
 
 // Key 5 was put at position 2, and key 7 deleted at position 4.
 fn rows(alloc: Global) -> Result<Tree, Fail> {

@@ -1,19 +1,12 @@
 //! Small groups, member after member.
+use crate::values::value;
 use hy_group::*;
 use hy_base::{
-    Clash, Intention, Key, Mark, Points, Pos, Row, Spans, Value, ValueError, Write, Writes,
+    Clash, Intention, Key, Mark, Points, Pos, Row, Spans, Write, Writes,
 };
 use hy_mark::Marks;
-use std::alloc::{AllocError, Global};
+use std::alloc::Global;
 use std::test::Fail;
-
-fn value(alloc: Global, byte: u8) -> Result<Option<Value>, Fail> {
-    match Value::new(vec![in alloc; byte; 1]?) {
-        Ok(value) => Ok(Some(value)),
-        Err(ValueError::BadValue) => Ok(None),
-        Err(ValueError::Memory) => Err(Fail::from(AllocError)),
-    }
-}
 
 // The marks of a transaction that read one key and put another.
 fn marks(alloc: Global, snap: Pos, read: Key, key: Key, pos: Pos) -> Result<Marks, Fail> {

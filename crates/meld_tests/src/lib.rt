@@ -18,3 +18,5 @@ mod programs;
 mod roller;
 #[cfg(test)]
 mod tree;
+#[cfg(test)]
+mod values;

@@ -1,7 +1,8 @@
 //! Each call once with ample memory, and spans at the ends of the range of keys.
+use crate::values::value;
 use hy_mark::*;
 use hy_base::{
-    Intention, Key, Mark, Points, Pos, Row, Span, Spans, Value, ValueError, Write, Writes,
+    Intention, Key, Mark, Points, Pos, Row, Span, Spans, Write, Writes,
 };
 use std::alloc::{AllocError, Global};
 use std::test::Fail;
@@ -36,14 +37,6 @@ fn the_widest_cut_has_126_blocks(rt: HostRuntime) -> Result<(), Fail> {
     let (lo, hi) = (1, LAST - 1);
     assert_eq!(rt; cover(rt.alloc(), Span { lo, hi })?.len(), 126);
     Ok(())
-}
-
-fn value(alloc: Global, byte: u8) -> Result<Option<Value>, Fail> {
-    match Value::new(vec![in alloc; byte; 1]?) {
-        Ok(value) => Ok(Some(value)),
-        Err(ValueError::BadValue) => Ok(None),
-        Err(ValueError::Memory) => Err(Fail::from(AllocError)),
-    }
 }
 
 // Points 4 and 9, the span from 2 to 3, and a put of "a" at key 7.
