@@ -187,133 +187,229 @@ fn put_once<D: Disk, R: Wait>(
     Some(append(rt, shape, hub, pass, client, entry))
 }
 
+// A small hub, with the one pass that has all its parts.
+#[derive(Drop)]
+struct Bench {
+    alloc: Global,
+    shape: Shape,
+    hub: Hub<MemDisk>,
+    pass: Pass<Contents<MemDisk>>,
+    ghost trial: { IsTrial hub shape pass },
+    ghost whole: { hub.parts ≡ pass.parts },
+}
+
+impl Bench {
+    fn new(alloc: Global, shape: Shape) -> Result<Bench, Fail>
+        requires { IsGoodShape shape }
+    {
+        let (hub, pass) = start(alloc, shape)?;
+        Ok(Bench {
+            alloc,
+            shape,
+            hub,
+            pass,
+        })
+    }
+
+    // Its device fails in its k-th write or sync.
+    fn failing(alloc: Global, shape: Shape, k: u64) -> Result<Bench, Fail>
+        requires { IsGoodShape shape × (1 ≤ k) }
+    {
+        let mut log = log_on(alloc, shape)?;
+        log.arm(k);
+        let (hub, pass) = hub_on(alloc, shape, log)?;
+        Ok(Bench {
+            alloc,
+            shape,
+            hub,
+            pass,
+        })
+    }
+
+    fn begin<R: Wait>(&mut self, rt: &R, client: u8) -> Result<Begun, BeginRefusal>
+        requires { IsWithin 1 2 client }
+    {
+        begin(rt, self.shape, &self.hub, &mut self.pass, client)
+    }
+
+    // The client's next program begins, and puts a byte.
+    fn put<R: Wait>(&mut self, rt: &R, client: u8) -> Option<Result<Pos, AppendRefusal>>
+        requires { IsWithin 1 2 client }
+    {
+        let (alloc, shape) = (self.alloc, self.shape);
+        put_once(rt, alloc, shape, &self.hub, &mut self.pass, client)
+    }
+
+    // A put of the client on a snapshot, whether or not it began there.
+    fn append<R: Wait>(
+        &mut self,
+        rt: &R,
+        client: u8,
+        snap: Pos,
+    ) -> Option<Result<Pos, AppendRefusal>>
+        requires { IsWithin 1 2 client }
+    {
+        let entry = put(self.alloc, client, snap, b'b')?;
+        let (hub, pass) = (&self.hub, &mut self.pass);
+        Some(append(rt, self.shape, hub, pass, client, entry))
+    }
+
+    fn end<R: Wait>(&mut self, rt: &R, client: u8) -> Result<(), EndRefusal>
+        requires { IsWithin 1 2 client }
+    {
+        self.hub.end(rt, &mut self.pass, client)
+    }
+
+    fn pad<R: Wait>(&mut self, rt: &R, server: u8) -> Result<Pos, PadRefusal>
+        requires { IsWithin 1 2 server }
+    {
+        self.hub.pad(rt, &mut self.pass, server)
+    }
+
+    fn catch_up<R: Threads + Wait + Sync>(
+        &mut self,
+        rt: &R,
+        server: u8,
+    ) -> Option<Result<(), PublishRefusal>>
+        requires { IsWithin 1 2 server }
+    {
+        let (alloc, shape) = (self.alloc, self.shape);
+        catch_up(rt, alloc, shape, &self.hub, &mut self.pass, server)
+    }
+
+    fn verdict<R: Wait>(&mut self, rt: &R, server: u8, pos: Pos) -> Told
+        requires { IsWithin 1 2 server }
+    {
+        self.hub.verdict(rt, &mut self.pass, server, pos)
+    }
+
+    fn has_trace<R: Wait>(&mut self, rt: &R, wanted: &[Event]) -> Result<bool, Fail> {
+        Ok(self.hub.trace(rt, &mut self.pass)?.as_slice() == wanted)
+    }
+
+    fn close(self) -> Closed<MemDisk> {
+        let Bench {
+            alloc: _,
+            shape: _,
+            hub,
+            pass,
+        } = self;
+        hub.close(pass)
+    }
+}
+
+// The refusal of a call that comes when its client is elsewhere.
+fn running(snap: Pos) -> Phase {
+    Phase::Begun { snap }
+}
+
 #[test]
 fn a_program_is_begun_appended_and_published(rt: HostRuntime) -> Result<(), Fail> {
-    let alloc = rt.alloc();
-    let (hub, mut pass) = start(alloc, SHAPE)?;
-    assert!(rt; put_once(&rt, alloc, SHAPE, &hub, &mut pass, 1) == Some(Ok(1)));
+    let mut bench = Bench::new(rt.alloc(), SHAPE)?;
+    assert!(rt; bench.put(&rt, 1) == Some(Ok(1)));
     let behind = BeginRefusal::Behind { last: 1, board: 0 };
-    assert!(rt; begin(&rt, SHAPE, &hub, &mut pass, 1).err() == Some(behind));
-    assert!(rt; hub.pad(&rt, &mut pass, 1) == Err(PadRefusal::Even));
-    assert!(rt; hub.verdict(&rt, &mut pass, 1, 1) == Told::NotYet { at: 0 });
-    assert!(rt; catch_up(&rt, alloc, SHAPE, &hub, &mut pass, 1) == Some(Ok(())));
+    assert!(rt; bench.begin(&rt, 1).err() == Some(behind));
+    assert!(rt; bench.pad(&rt, 1) == Err(PadRefusal::Even));
+    assert!(rt; bench.verdict(&rt, 1, 1) == Told::NotYet { at: 0 });
+    assert!(rt; bench.catch_up(&rt, 1) == Some(Ok(())));
     let stale = PublishRefusal::Stale { board: 1 };
-    assert!(rt; catch_up(&rt, alloc, SHAPE, &hub, &mut pass, 1) == Some(Err(stale)));
-    assert!(rt; hub.verdict(&rt, &mut pass, 1, 1) == Told::Known(Some(Verdict::Commit)));
-    assert!(rt; hub.verdict(&rt, &mut pass, 1, 0) == Told::Past { from: 0 });
-    let begun = begin(&rt, SHAPE, &hub, &mut pass, 1)
-        .ok()
-        .expect(&rt, "begun");
-    assert!(rt; begun.snap == 1);
-    assert!(rt; begun.roller.tree().row_count() == 1);
-    let twice = BeginRefusal::OutOfTurn {
-        client: 1,
-        phase: Phase::Begun { snap: 1 },
-    };
-    assert!(rt; begin(&rt, SHAPE, &hub, &mut pass, 1).err() == Some(twice));
-    let old = put(alloc, 1, 0, b'b').expect(&rt, "memory");
-    let other = AppendRefusal::OutOfTurn {
-        client: 1,
-        phase: Phase::Begun { snap: 1 },
-    };
-    assert!(rt; append(&rt, SHAPE, &hub, &mut pass, 1, old) == Err(other));
-    assert!(rt; hub.end(&rt, &mut pass, 1) == Ok(()));
-    let idle = EndRefusal::OutOfTurn {
-        client: 1,
-        phase: Phase::Idle,
-    };
-    assert!(rt; hub.end(&rt, &mut pass, 1) == Err(idle));
-    let trace = hub.trace(&rt, &mut pass)?;
+    assert!(rt; bench.catch_up(&rt, 1) == Some(Err(stale)));
+    assert!(rt; bench.verdict(&rt, 1, 1) == Told::Known(Some(Verdict::Commit)));
+    assert!(rt; bench.verdict(&rt, 1, 0) == Told::Past { from: 0 });
     let wanted = [
         Event::Begin { client: 1 },
         Event::Append { client: 1 },
         Event::Publish { server: 1, upto: 1 },
-        Event::Begin { client: 1 },
-        Event::End { client: 1 },
     ];
-    assert!(rt; trace.as_slice() == wanted.as_slice());
-    let closed = hub.close(pass);
-    assert!(rt; closed.entries.len() == 1);
-    assert!(rt; closed.marks.len() == 6);
+    assert!(rt; bench.has_trace(&rt, &wanted)?);
+    let closed = bench.close();
+    assert!(rt; closed.entries.len() == 1 && closed.marks.len() == 4);
     assert!(rt; closed.log.close().bytes().len() == 513);
     Ok(())
 }
 
 #[test]
+fn a_call_out_of_turn_is_refused(rt: HostRuntime) -> Result<(), Fail> {
+    let mut bench = Bench::new(rt.alloc(), SHAPE)?;
+    let client = 1;
+    assert!(rt; bench.put(&rt, 1) == Some(Ok(1)));
+    assert!(rt; bench.catch_up(&rt, 1) == Some(Ok(())));
+    let begun = bench.begin(&rt, 1).ok().expect(&rt, "begun");
+    assert!(rt; begun.snap == 1 && begun.roller.tree().row_count() == 1);
+    let phase = running(1);
+    let twice = BeginRefusal::OutOfTurn { client, phase };
+    assert!(rt; bench.begin(&rt, 1).err() == Some(twice));
+    let other = AppendRefusal::OutOfTurn { client, phase };
+    assert!(rt; bench.append(&rt, 1, 0) == Some(Err(other)));
+    assert!(rt; bench.end(&rt, 1) == Ok(()));
+    let phase = Phase::Idle;
+    let idle = EndRefusal::OutOfTurn { client, phase };
+    assert!(rt; bench.end(&rt, 1) == Err(idle));
+    Ok(())
+}
+
+#[test]
 fn a_pad_completes_a_group(rt: HostRuntime) -> Result<(), Fail> {
-    let alloc = rt.alloc();
-    let (hub, mut pass) = start(alloc, PAIRS)?;
-    assert!(rt; put_once(&rt, alloc, PAIRS, &hub, &mut pass, 1) == Some(Ok(1)));
-    assert!(rt; hub.pad(&rt, &mut pass, 2) == Ok(2));
-    assert!(rt; catch_up(&rt, alloc, PAIRS, &hub, &mut pass, 1) == Some(Ok(())));
-    let begun = begin(&rt, PAIRS, &hub, &mut pass, 1)
-        .ok()
-        .expect(&rt, "begun");
+    let mut bench = Bench::new(rt.alloc(), PAIRS)?;
+    assert!(rt; bench.put(&rt, 1) == Some(Ok(1)));
+    assert!(rt; bench.pad(&rt, 2) == Ok(2));
+    assert!(rt; bench.catch_up(&rt, 1) == Some(Ok(())));
+    let begun = bench.begin(&rt, 1).ok().expect(&rt, "begun");
     assert!(rt; begun.snap == 2);
-    assert!(rt; hub.verdict(&rt, &mut pass, 1, 2) == Told::Known(None));
+    assert!(rt; bench.verdict(&rt, 1, 2) == Told::Known(None));
     Ok(())
 }
 
 #[test]
 fn a_full_log_refuses_the_program(rt: HostRuntime) -> Result<(), Fail> {
-    let alloc = rt.alloc();
-    let (hub, mut pass) = start(alloc, SMALL)?;
-    assert!(rt; put_once(&rt, alloc, SMALL, &hub, &mut pass, 1) == Some(Ok(1)));
-    assert!(rt; put_once(&rt, alloc, SMALL, &hub, &mut pass, 2) == Some(Err(AppendRefusal::Full)));
-    let trace = hub.trace(&rt, &mut pass)?;
-    assert!(rt; trace.as_slice().last() == Some(&Event::Refuse { client: 2 }));
+    let mut bench = Bench::new(rt.alloc(), SMALL)?;
+    assert!(rt; bench.put(&rt, 1) == Some(Ok(1)));
+    assert!(rt; bench.put(&rt, 2) == Some(Err(AppendRefusal::Full)));
+    let wanted = [
+        Event::Begin { client: 1 },
+        Event::Append { client: 1 },
+        Event::Begin { client: 2 },
+        Event::Refuse { client: 2 },
+    ];
+    assert!(rt; bench.has_trace(&rt, &wanted)?);
     Ok(())
-}
-
-// A hub whose device fails in its k-th write or sync.
-fn failing(alloc: Global, shape: Shape, k: u64) -> Result<Trial, Fail>
-    requires { IsGoodShape shape × (1 ≤ k) }
-    ensures trial { IfOk result (λ r. IsTrial r.0 shape r.1) }
-    ensures parts { IfOk result (λ r. (r.0.parts ≡ 129) × (r.1.parts ≡ 129)) }
-{
-    let mut log = log_on(alloc, shape)?;
-    log.arm(k);
-    hub_on(alloc, shape, log)
 }
 
 #[test]
 fn an_append_that_fails_stops_the_hub(rt: HostRuntime) -> Result<(), Fail> {
-    let alloc = rt.alloc();
-    let (hub, mut pass) = failing(alloc, SHAPE, 3)?;
-    assert!(rt;
-        put_once(&rt, alloc, SHAPE, &hub, &mut pass, 1) == Some(Err(AppendRefusal::Device))
-    );
+    let mut bench = Bench::failing(rt.alloc(), SHAPE, 3)?;
+    assert!(rt; bench.put(&rt, 1) == Some(Err(AppendRefusal::Device)));
     let stopped = AppendRefusal::Stopped { at: 1 };
-    assert!(rt; put_once(&rt, alloc, SHAPE, &hub, &mut pass, 2) == Some(Err(stopped)));
-    assert!(rt; hub.end(&rt, &mut pass, 1) == Ok(()));
-    let trace = hub.trace(&rt, &mut pass)?;
+    assert!(rt; bench.put(&rt, 2) == Some(Err(stopped)));
+    assert!(rt; bench.end(&rt, 1) == Ok(()));
     let wanted = [
         Event::Begin { client: 1 },
         Event::Begin { client: 2 },
         Event::End { client: 1 },
     ];
-    assert!(rt; trace.as_slice() == wanted.as_slice());
-    let closed = hub.close(pass);
-    assert!(rt; closed.log.stopped() == Some(1));
-    assert!(rt; closed.entries.len() == 0);
-    let disk = closed.log.close();
-    let Ok(again) = open_log(alloc, disk.stop(1), Some(SHAPE)) else {
-        return Err("not opened")?;
-    };
-    assert!(rt; again.len() == 1);
+    assert!(rt; bench.has_trace(&rt, &wanted)?);
+    let closed = bench.close();
+    assert!(rt; closed.log.stopped() == Some(1) && closed.entries.len() == 0);
+    assert!(rt; is_one_body(rt.alloc(), closed.log.close().stop(1)));
     Ok(())
+}
+
+// Whether a device holds a log of one body.
+fn is_one_body(alloc: Global, disk: MemDisk) -> bool {
+    match open_log(alloc, disk, Some(SHAPE)) {
+        Ok(log) => log.len() == 1,
+        Err(_) => false,
+    }
 }
 
 #[test]
 fn a_pad_that_fails_leaves_some_fillers(rt: HostRuntime) -> Result<(), Fail> {
-    let alloc = rt.alloc();
-    let (hub, mut pass) = failing(alloc, FOURS, 9)?;
-    assert!(rt; put_once(&rt, alloc, FOURS, &hub, &mut pass, 1) == Some(Ok(1)));
-    assert!(rt; hub.pad(&rt, &mut pass, 1) == Err(PadRefusal::Device));
-    assert!(rt; hub.pad(&rt, &mut pass, 1) == Err(PadRefusal::Stopped { at: 3 }));
-    let closed = hub.close(pass);
-    assert!(rt; closed.entries.len() == 1);
-    assert!(rt; closed.log.len() == 2);
+    let mut bench = Bench::failing(rt.alloc(), FOURS, 9)?;
+    assert!(rt; bench.put(&rt, 1) == Some(Ok(1)));
+    assert!(rt; bench.pad(&rt, 1) == Err(PadRefusal::Device));
+    assert!(rt; bench.pad(&rt, 1) == Err(PadRefusal::Stopped { at: 3 }));
+    let closed = bench.close();
+    assert!(rt; closed.entries.len() == 1 && closed.log.len() == 2);
     Ok(())
 }
 
@@ -335,39 +431,6 @@ fn run_client<D: Disk, R: Threads + Wait + Sync>(
         catch_up(rt, alloc, SHAPE, hub, pass, client)?.ok()?;
     }
     Some(())
-}
-
-// Both clients, each with a pass of its own.
-fn run_both<R: Threads + Wait + Sync>(rt: &R, alloc: Global) -> Result<Events, Fail> {
-    let (hub, mut one) = start(alloc, SHAPE)?;
-    let mut other = hub.split(&mut one, 1);
-    let first = run_client(rt, alloc, &hub, &mut one, 1);
-    let second = run_client(rt, alloc, &hub, &mut other, 2);
-    hub.join(&mut one, other);
-    let (Some(()), Some(())) = (first, second) else {
-        return Err("a client is not done")?;
-    };
-    Ok(hub.trace(rt, &mut one)?)
-}
-
-#[test]
-fn two_passes_run_their_clients(rt: HostRuntime) -> Result<(), Fail> {
-    let trace = run_both(&rt, rt.alloc())?;
-    for client in [1, 2] {
-        let begun = trace
-            .as_slice()
-            .iter()
-            .filter(|event| **event == Event::Begin { client })
-            .count();
-        assert_eq!(rt; begun, 3);
-        let appended = trace
-            .as_slice()
-            .iter()
-            .filter(|event| **event == Event::Append { client })
-            .count();
-        assert_eq!(rt; appended, 3);
-    }
-    Ok(())
 }
 
 // A client whose programs run on a thread, with a pass of its own.

@@ -1,15 +1,7 @@
-//! Tests of trees, programs on them, marks, and the way of a group through validation: each public call once with ample
-//! memory, and keys at the ends of their range. It promises nothing to a crate above.
+//! Tests of trees, of programs on them, of spans as blocks, and of rollers, which validate whole groups: each way of a group with
+//! answers counted by hand, and keys at the ends of their range. It promises nothing to a crate above.
 #![tactic(auto)]
 
-#[cfg(test)]
-mod advance;
-#[cfg(test)]
-mod checks;
-#[cfg(test)]
-mod finish;
-#[cfg(test)]
-mod group;
 #[cfg(test)]
 mod marks;
 #[cfg(test)]
@@ -18,5 +10,3 @@ mod programs;
 mod roller;
 #[cfg(test)]
 mod tree;
-#[cfg(test)]
-mod values;

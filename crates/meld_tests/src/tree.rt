@@ -1,15 +1,22 @@
 //! Each call once with ample memory, and keys at the ends of their range.
 ghost use Rattle.std.specs.Prelude.{◌≡◌, ◌<◌};
 
-use crate::values::value;
 use hy_tree::*;
-use hy_base::{Key, Pos, Row, Steps};
+use hy_base::{Key, Pos, Row, Steps, Value, ValueError};
 use std::alloc::{AllocError, Global};
 use std::marker::Brand;
 use std::sync::ledger::{Blank, Ledger};
 use std::test::Fail;
 
 const LAST: Key = u64::MAX;
+
+fn value(alloc: Global, byte: u8) -> Result<Option<Value>, Fail> {
+    match Value::new(vec![in alloc; byte; 1]?) {
+        Ok(value) => Ok(Some(value)),
+        Err(ValueError::BadValue) => Ok(None),
+        Err(ValueError::Memory) => Err(Fail::from(AllocError)),
+    }
+}
 
 // The rows at keys 0, 5 and 2^64 - 1. That of 5 is of a deletion.
 fn three_rows(alloc: Global) -> Result<Tree, Fail> {
