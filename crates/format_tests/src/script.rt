@@ -197,7 +197,8 @@ fn refuses_commands_and_events(rt: HostRuntime) -> Result<(), Fail> {
             ("end\nschedule\nr 1 4294967296\n", 7, Why::Range),
             ("end\nschedule\nr 1 18446744073709551616\n", 7, Why::Number),
             ("end\nschedule\nr 1\n", 7, Why::Form),
-            ("end\nschedule\nt 1 0\n", 7, Why::Word),
+            ("end\nschedule\nt 1 0\nt 5 0\n", 8, Why::Range),
+            ("end\nschedule\nt 4 3\n", 7, Why::Range),
         ],
     )
 }

@@ -1,5 +1,5 @@
 -- What the core keeps of a run, and how it stands for a state.
-use Rattle.std.specs.Prelude.{◌≡◌, ℕ, ◌+◌, ◌-◌, ◌%◌, ◌^◌, ◌<◌, ◌≤◌, List, [], ◌∷◌, ◌++◌, map, length, take, drop, Option, None, Some, Bool, ◌&&◌, not, nat_le, nat_lt, if◌then◌else◌, ⊤}
+use Rattle.std.specs.Prelude.{◌≡◌, ℕ, ◌+◌, ◌-◌, ◌%◌, ◌^◌, ◌<◌, ◌≤◌, List, [], ◌∷◌, ◌++◌, map, length, take, drop, Option, None, Some, is_none, is_some, IfSome, true, option_map, option_to_list, option_and_then, replicate, Bool, ◌&&◌, not, nat_le, nat_lt, if◌then◌else◌, ⊤}
 use Rattle.std.specs.List.{AllByRecursion}
 use Rattle.hy_base.specs.declared.record.EntryKind.{EntryKind}
 use Rattle.hy_base.specs.declared.record.EntryKind.TheVariants.{Txn}
@@ -7,6 +7,7 @@ use Rattle.hy_base.specs.declared.workload.Program.{Program}
 use Rattle.hy_base.specs.declared.workload.Client.{Client}
 use Rattle.hy_base.specs.declared.workload.Home.{Home}
 use Rattle.hy_base.specs.declared.workload.Session.{Session}
+use Rattle.hy_base.specs.declared.workload.ArmedStop.{ArmedStop}
 use Rattle.hy_base.specs.declared.workload.Phase.TheVariants.{Idle, Begun}
 use Rattle.hy_base.specs.declared.workload.Event.{Event}
 use Rattle.hy_base.specs.Lists.{nth, change_nth}
@@ -15,34 +16,40 @@ use Rattle.hy_base.specs.Script.{Workload}
 use Rattle.hy_rules.specs.Validation.{live}
 use Rattle.hy_rules.specs.Exec.{Effects, exec, intention}
 use Rattle.hy_rules.specs.Rolling.{Roll, rolled_upto, Stands}
-use Rattle.hy_rules.specs.Moves.{State, client_passes, is_begun, fresh_session, after}
-use Rattle.hy_rules.specs.Runs.{Ending, ByReading, ByEntryAt, ByFullLog, Ended, answers_on, setting_of, leaves_write, added, ended_by, is_done}
+use Rattle.hy_base.specs.Shape.{is_within, whole_groups}
+use Rattle.hy_rules.specs.Moves.{State, surviving, client_passes, is_begun, fresh_session, after}
+use Rattle.hy_rules.specs.Runs.{snap_of, Ending, ByReading, ByEntryAt, ByFullLog, ByStop, Ended, answers_to, setting_of, leaves_write, added, ended_by, is_done}
+use Rattle.hy_rules.specs.EntryFormat.{spelling}
+use Rattle.hy_memlog.specs.Pages.{Pages, IsStop, with_body, broken_log}
 use Rattle.hy_exec.specs.Running.{has_written}
 use Rattle.hy_core.specs.declared.running.Running.{Running}
 use Rattle.hy_core.specs.declared.parts.Parts.{Parts}
 use Rattle.hy_core.specs.declared.parts.Seat.{Seat}
 use Rattle.hy_core.specs.declared.parts.Answered.{Answered}
 use Rattle.hy_core.specs.declared.parts.End.{End}
-use Rattle.hy_core.specs.declared.parts.End.TheVariants.{Reading, EntryAt, FullLog}
+use Rattle.hy_core.specs.declared.parts.End.TheVariants.{Reading, EntryAt, FullLog, Stopped}
 use Rattle.hy_core.specs.Course.{Course, IsReached}
 
--- the lists that the core keeps
+-- what the core keeps
 pub record Holding : Type 0 where
   pub log : List EntryKind
+  pub pages : Pages
   pub rollers : List Roll
   pub seats : List Seat
   pub told : List Answered
+  pub armed : Option ArmedStop
 
 abbrev pub held : Parts → Holding
-held p = record { log = p.log.items; rollers = p.rollers.items; seats = p.seats.items; told = p.told.items }
+held p = record { log = p.log.items; pages = p.pages; rollers = p.rollers.items; seats = p.seats.items; told = p.told.items; armed = p.armed }
 
 abbrev pub state_of : Holding → State
-state_of h = record { log = h.log; boards = map rolled_upto h.rollers; sessions = map (λ x. x.session) h.seats; armed = None }
+state_of h = record { log = h.log; boards = map rolled_upto h.rollers; sessions = map (λ x. x.session) h.seats; armed = h.armed }
 
 abbrev pub ending_of : End → Ending
 ending_of Reading = ByReading
 ending_of (EntryAt pos) = ByEntryAt pos
 ending_of FullLog = ByFullLog
+ending_of Stopped = ByStop
 
 abbrev pub ended_of : Answered → Ended
 ended_of t = record { client = t.client; number = t.number; snap = t.snap; ending = ending_of t.end }
@@ -51,7 +58,7 @@ abbrev pub done_of : Holding → List Ended
 done_of h = map ended_of h.told
 
 abbrev pub course_of : Workload → Holding → Course
-course_of script h = record { script = script; state = state_of h; ended = done_of h }
+course_of script h = record { script = script; state = state_of h; ended = done_of h; broken = is_none h.pages.bodies }
 
 -- the entry of a program that wrote
 abbrev pub entry_left : ℕ → ℕ → ℕ → Effects → Option EntryKind
@@ -95,9 +102,16 @@ pub record IsBoard (script : Workload) (log : List EntryKind) (r : Roll) : Type 
 -- a program that ended, with the answers that it was given
 pub record IsAnswered (script : Workload) (log : List EntryKind) (t : Answered) : Type 0 where
   pub within : t.snap ≤ length log
-  pub answers : t.answers ≡ answers_on script log (ended_of t)
+  pub answers : t.answers ≡ answers_to script log (ended_of t)
+
+-- the device holds the entries' spellings, unless its log is broken
+pub record IsOnDevice (script : Workload) (log : List EntryKind) (pages : Pages) : Type 0 where
+  pub shape : pages.shape ≡ script.shape
+  pub bodies : IfSome pages.bodies (λ bodies. bodies ≡ map spelling log)
 
 pub record IsHolding (script : Workload) (h : Holding) : Type 0 where
+  pub stored : IsOnDevice script h.log h.pages
+  pub armed : IfSome h.armed IsStop
   pub lawful : IsLawful script.shape h.log
   pub servers : length h.rollers ≡ script.servers
   pub boards : AllByRecursion (IsBoard script h.log) h.rollers
@@ -114,6 +128,7 @@ pub record Steps (script : Workload) (old new : Holding) (event : Event) : Type 
   pub holding : IsHolding script new
   pub leads : state_of new ≡ after (setting_of script) (state_of old) event (added script (state_of old) event)
   pub ends : done_of new ≡ done_of old ++ ended_by (state_of old) event
+  pub whole : is_none new.pages.bodies ≡ is_none old.pages.bodies
 
 -- whether a client's program is begun, and then whether it wrote
 abbrev pub begun_wrote : Workload → State → ℕ → Option Bool
@@ -159,10 +174,15 @@ finishing h client snap x run end = record h {
 abbrev pub Finishes : Holding → Holding → ℕ → End → Type 0
 Finishes old new client end = (snap : ℕ) (x : Seat) (run : Running) → BegunSeat old client snap x run → new ≡ finishing old client snap x run end
 
+-- the pages with a body more, so many times, where a stop may strike in the first append
+abbrev pub pages_with : Option ArmedStop → ℕ → EntryKind → Pages → Pages
+pages_with stop count e pages = record pages { bodies = option_map (with_body stop count (spelling e)) pages.bodies }
+
 -- and its entry is appended
 abbrev pub appending : Holding → ℕ → ℕ → ℕ → Seat → Running → EntryKind → Holding
 appending h client pos snap x run e = record h {
   log = h.log ++ e ∷ [];
+  pages = pages_with None 1 e h.pages;
   seats = change_nth (λ _. departed x.session.next pos) h.seats client;
   told = h.told ++ told_of client snap x run (EntryAt pos) ∷ [];
 }
@@ -201,3 +221,66 @@ first_behind number len (r ∷ rs) = if nat_lt (rolled_upto r) len then Some num
 -- the entries past a position, up to another
 abbrev pub entries_between : List EntryKind → ℕ → ℕ → List EntryKind
 entries_between log from upto = take (upto - from) (drop from log)
+
+-- whether a stop may be ordered
+abbrev pub may_stop : Option ArmedStop → ℕ → ℕ → Bool
+may_stop armed call pattern = is_none armed && (is_within 1 4 call && nat_le pattern 2)
+
+-- what the client's begun program leaves
+abbrev pub left_entry : List Seat → ℕ → Option EntryKind
+left_entry seats client = option_and_then (λ x. option_and_then (λ (r : Running). r.entry) x.running) (nth seats client)
+
+-- A roller for each server, at the end of the last whole group, stands for the log.
+pub record AreRestarted (script : Workload) (log : List EntryKind) (rs : List Roll) : Type 0 where
+  pub count : length rs ≡ script.servers
+  pub boards : AllByRecursion (IsBoard script log) rs
+  pub at : map rolled_upto rs ≡ replicate script.servers (whole_groups script.shape (length log))
+
+-- the entry that a stop keeps
+abbrev pub kept_by : ArmedStop → EntryKind → List EntryKind
+kept_by stop e = replicate (surviving (Some stop) 1) e
+
+-- a stop has struck in an append: its entry is on the device, or not
+abbrev pub struck : ArmedStop → EntryKind → Holding → Holding
+struck stop e h = record h { pages = pages_with (Some stop) 1 e h.pages }
+
+-- the log on the device is broken in it
+abbrev pub broken : Holding → Holding
+broken h = record h { pages = broken_log h.pages }
+
+-- the pages have places for so many bodies more, unless they are broken
+abbrev pub HasPlaces : Pages → ℕ → Type 0
+HasPlaces pages count = IfSome pages.bodies (λ bodies. length bodies + count ≤ pages.shape.cap)
+
+-- a begun client's program ends by its entry, which is on the device
+abbrev pub leaving : Holding → ℕ → ℕ → ℕ → Seat → Running → EntryKind → Holding
+leaving h client pos snap x run e = record (appending h client pos snap x run e) { pages = h.pages }
+
+abbrev pub Leaves : Holding → Holding → ℕ → ℕ → Type 0
+Leaves old new client pos = (snap : ℕ) (x : Seat) (run : Running) (e : EntryKind) → BegunSeat old client snap x run → run.entry ≡ Some e → new ≡ leaving old client pos snap x run e
+
+-- the log on the device is broken in a restart
+pub record Breaking (old new : Holding) : Type 0 where
+  pub is : new ≡ broken old
+  pub armed : is_some old.armed ≡ true
+
+-- the number after a seat's next program is one of 32 bits
+abbrev pub SeatFits : Seat → Type 0
+SeatFits x = x.session.next + 1 < 2 ^ 32
+
+-- a seat whose program is lost where it was begun
+abbrev pub abandoned_seat : Seat → Seat
+abandoned_seat x = if is_begun x.session.phase then departed x.session.next x.session.last else x
+
+-- what is told of it
+abbrev pub abandoned_told : ℕ → Seat → List Answered
+abandoned_told client x = option_to_list (option_map (λ snap. record { client = client; number = x.session.next; snap = snap; end = Stopped; answers = [] }) (snap_of x.session.phase))
+
+-- of these clients, the first of which has this number
+abbrev pub all_abandoned : ℕ → List Seat → List Answered
+all_abandoned number [] = []
+all_abandoned number (x ∷ xs) = abandoned_told number x ++ all_abandoned (number + 1) xs
+
+-- servers and clients restart
+pub record HasRestarted (old new : Holding) (rs : List Roll) : Type 0 where
+  pub is : new ≡ record old { rollers = rs; seats = map abandoned_seat old.seats; told = old.told ++ all_abandoned 1 old.seats; armed = None }

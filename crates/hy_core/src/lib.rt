@@ -4,16 +4,17 @@
 //! ended. [`Core::step`] moves by an event exactly where it may happen, and else changes nothing; [`Core::run`] stops before
 //! the first that may not. [`Core::next`] is the tail rule, and [`Core::finish`] runs it to its end; then
 //! [`Core::outcomes`] are the replies to all programs. Each server's board is a roller. Steps copy neither log nor tree.
+//! The log is on a device in memory. An ordered stop strikes in the append after it, as a failure of the device, a crash and
+//! a new opening.
 #![tactic(auto)]
 
 mod copies;
 mod moves;
 mod parts;
 mod replies;
+mod restarting;
 mod running;
 mod simulation;
 mod tail;
-#[cfg(test)]
-mod tests;
 
 pub use simulation::{Core, RunError, StepError};

@@ -1,11 +1,10 @@
 //! The core.
-ghost use Rattle.std.specs.Prelude.{◌≡◌, ◌↔◌, ℕ, true, None, Err, IfOk, IfSome, OnOk, OnErr, IsErrOf};
-ghost use Rattle.std.specs.List.{AllByRecursion};
+ghost use Rattle.std.specs.Prelude.{◌≡◌, ◌⊎◌, ℕ, true, false, None, Err, IfOk, OnOk, OnErr, IsErrOf};
 ghost use Rattle.hy_base.specs.Shape.{IsWithin};
 ghost use Rattle.hy_rules.specs.Moves.{board_of, is_declared};
 ghost use Rattle.hy_rules.specs.Validation.{rows};
 ghost use Rattle.hy_rules.specs.Runs.{setting_of, step, next_event, is_finished, results_at};
-ghost use Rattle.hy_core.specs.Course.{Course, IsCalm, IsReached, Advances, Follows, FollowsSome, IsRefusedAt, Extends, Completes, opened};
+ghost use Rattle.hy_core.specs.Course.{Course, IsReached, Advances, Breaks, Follows, FollowsSome, IsRefusedAt, Extends, Completes, opened};
 
 use crate::moves::perform;
 use crate::parts::{Parts, board_at, may_happen, open, roller_of};
@@ -37,12 +36,13 @@ impl Model for Core {
     ghost invariant = { λ c. IsCore c.script (held c.parts) };
 }
 
-/// Why an event didn't happen. The core is as before.
+/// Why an event didn't happen. The core is as before, unless it broke.
 #[derive(Clone, Copy, Debug, PartialEq, Eq, Error)]
 pub enum StepError {
     /// It may not happen in this state.
     #[error("the event may not happen")]
     NotEnabled,
+    /// Out of memory now, or once in a restart after a stop: then the core is broken.
     #[error("out of memory")]
     Memory,
 }
@@ -88,9 +88,10 @@ impl Core {
         &self.script
     }
 
-    /// Moves by an event, which orders no stop. A roll of the log takes up to 16 threads, and enters the gate once for each group.
+    /// Moves by an event. A roll of the log takes up to 16 threads, and enters the gate once for each group.
     ///
-    /// `NotEnabled` exactly where the event may not happen, `Memory` where memory is wanting. Then the core is as before.
+    /// `NotEnabled` exactly where the event may not happen; then the core is as before. `Memory`: out of memory. Then it is as
+    /// before too; but where a stop had struck it is broken: its state stays, and every further event is answered by `Memory`.
     pub fn step<R: Threads + Sync, G: Gate + Sync>(
         &mut self,
         rt: &R,
@@ -99,12 +100,17 @@ impl Core {
         threads: usize,
         gate: &G,
     ) -> Result<(), StepError>
-        requires calm { IsCalm event }
         requires threads { IsWithin 1 16 threads }
         ensures ok { OnOk result (Advances self.old event self.new) }
-        ensures refused { result ≡ Err StepError.NotEnabled ↔ step self.old.script self.old.state event ≡ None }
-        ensures err { OnErr result (self.new ≡ self.old) }
+        ensures refused { result ≡ Err StepError.NotEnabled → step self.old.script self.old.state event ≡ None }
+        ensures disabled { self.old.broken ≡ false → step self.old.script self.old.state event ≡ None → result ≡ Err StepError.NotEnabled }
+        ensures broken { self.old.broken ≡ true → result ≡ Err StepError.Memory }
+        ensures same { result ≡ Err StepError.NotEnabled → self.new ≡ self.old }
+        ensures err { OnErr result ((self.new ≡ self.old) ⊎ Breaks self.old self.new) }
     {
+        if self.parts.pages.is_broken() {
+            return Err(StepError::Memory);
+        }
         if !may_happen(&self.script, &self.parts, event) {
             return Err(StepError::NotEnabled);
         }
@@ -120,11 +126,10 @@ impl Core {
         Ok(())
     }
 
-    /// The event that the tail rule gives, if any. It takes no memory, and is never a stop.
+    /// The event that the tail rule gives, if any. It takes no memory.
     pub fn next(&self) -> Option<Event>
         ensures next { result ≡ next_event self.now.script self.now.state }
         ensures reached { IsReached self.now }
-        ensures calm { IfSome result IsCalm }
     {
         next_event(&self.script, &self.parts)
     }
@@ -132,7 +137,7 @@ impl Core {
     /// Moves by events in turn.
     ///
     /// `NotEnabled` names the first event that may not happen in its turn, and those before it have happened.
-    /// `Memory`: memory was wanting, and some of the first events have happened.
+    /// `Memory`: out of memory, and some of the first events have happened. The core may be broken, as by [`step`](Core::step).
     pub fn run<R: Threads + Sync, G: Gate + Sync>(
         &mut self,
         rt: &R,
@@ -141,7 +146,6 @@ impl Core {
         threads: usize,
         gate: &G,
     ) -> Result<(), RunError>
-        requires calm { AllByRecursion IsCalm events.now }
         requires threads { IsWithin 1 16 threads }
         ensures ok { OnOk result (Follows self.old events.now self.new) }
         ensures refused { (index : ℕ) → IsErrOf result (RunError.NotEnabled index) → IsRefusedAt self.old events.now self.new index }
@@ -159,7 +163,7 @@ impl Core {
 
     /// Moves by the tail rule up to its end, and adds its events to a list. Then the run is finished.
     ///
-    /// `AllocError`: memory was wanting. The core has moved by the events that were added.
+    /// `AllocError`: out of memory. The core has moved by the events that were added, and may be broken.
     pub fn finish<R: Threads + Sync, G: Gate + Sync>(
         &mut self,
         rt: &R,

@@ -1,25 +1,25 @@
 -- From what the lines of a schedule were read as, to their words.
-use Rattle.std.proofs.Common.{arith, ◌≡◌, ℕ, ◌<◌, ◌^◌, Bool, true, false, not, ◌&&◌, List, [], ◌∷◌, length, refl, sym, ap, subst, ◌∙◌, nat_le}
+use Rattle.std.proofs.Common.{arith, ◌≡◌, ℕ, ◌<◌, ◌^◌, Bool, true, false, ◌&&◌, List, [], ◌∷◌, length, refl, sym, ap, subst, ◌∙◌, nat_le}
 use Rattle.std.specs.Prelude.{Result, Ok, Err, bytes_eq, codes, decimal, map}
 use Rattle.std.specs.List.{AllByRecursion}
 use Rattle.std.proofs.lemmas.Bool.{and_parts, leb-true}
 use Rattle.hy_base.specs.declared.workload.Event.{Event}
-use Rattle.hy_base.specs.declared.workload.Event.TheVariants.{Begin, Append, End, Refuse, Pad, Publish}
+use Rattle.hy_base.specs.declared.workload.Event.TheVariants.{Begin, Append, End, Refuse, Pad, Publish, Stop}
 use Rattle.hy_base.specs.Script.{Workload}
 use Rattle.hy_base.specs.Shape.{IsWithin, is_within}
 use Rattle.hy_base.specs.Spelling.{Text, event_words}
 use Rattle.hy_script.specs.Fields.{and_then, one_number, two_numbers}
-use Rattle.hy_script.specs.Forms.{judged, read_line}
-use Rattle.hy_script.specs.Grammar.{client_event, event_forms, event_of, makes_if, publish, stop}
+use Rattle.hy_script.specs.Forms.{judged}
+use Rattle.hy_script.specs.Grammar.{client_event, event_of, makes_if, publish, stop}
 use Rattle.hy_script.specs.Laws.{IsEventSpellable, SpellsTheEventsItReads}
 use Rattle.hy_script.specs.Lines.{numbered_lines, words_of}
 use Rattle.hy_script.specs.Reading.{events_of, refused}
 use Rattle.hy_script.specs.declared.refused.EventLine.{EventLine}
 use Rattle.hy_script.specs.declared.refused.Refused.{Refused}
 use Rattle.hy_script.specs.declared.why.Why.{Why}
-use Rattle.hy_script.specs.declared.why.Why.TheVariants.{Word, Range}
+use Rattle.hy_script.specs.declared.why.Why.TheVariants.{Range}
 use Rattle.hy_script.proofs.EventLines.{client_line, event_line, event_same, server_line}
-use Rattle.hy_script.proofs.FieldsRead.{and_then_was, branch, if_was, one_was, two_was, within_was, words_are}
+use Rattle.hy_script.proofs.FieldsRead.{and_then_was, branch, one_was, two_was, within_was, words_are}
 
 abbrev pub IsEventLine : Workload → List Text → Event → Type 0
 IsEventLine script words event = (words ≡ event_words event) × IsEventSpellable script event
@@ -41,7 +41,7 @@ module _ (script : Workload) (word : Text) (fields : List Text) (event : Event) 
   pad_was named e =
       let step = and_then_was (one_number fields) (λ server. judged (makes_if ((is_within 1 script.servers server, Range) ∷ []) (Pad server))) event e in
       let tested = ranged_was (is_within 1 script.servers step.0) (Pad step.0) event step.2 in
-      subst (IsEventLine script (word ∷ fields)) tested.1 (words_are word (codes "p") fields _ named (one_was fields step.0 step.1).0, (within_was 1 script.servers step.0 tested.0, tt))
+      subst (IsEventLine script (word ∷ fields)) tested.1 (words_are word (codes "p") fields _ named (one_was fields step.0 step.1).0, within_was 1 script.servers step.0 tested.0)
 
   publish_was : bytes_eq word (codes "r") ≡ true → and_then (two_numbers fields) (λ p. judged (publish script p.0 p.1)) ≡ Ok event → IsEventLine script (word ∷ fields) event
   publish_was named e =
@@ -50,27 +50,31 @@ module _ (script : Workload) (word : Text) (fields : List Text) (event : Event) 
       let tested = ranged_was (is_within 1 script.servers p.0 && nat_le p.1 4294967295) (Publish p.0 p.1) event step.2 in
       let parts = and_parts (is_within 1 script.servers p.0) (nat_le p.1 4294967295) tested.0 in
       let small : p.1 < 2 ^ 32 = omega (arith, leb-true p.1 4294967295 parts.1) in
-      subst (IsEventLine script (word ∷ fields)) tested.1 (words_are word (codes "r") fields _ named (two_was fields p step.1).words, ((within_was 1 script.servers p.0 parts.0, small), tt))
+      subst (IsEventLine script (word ∷ fields)) tested.1 (words_are word (codes "r") fields _ named (two_was fields p step.1).words, (within_was 1 script.servers p.0 parts.0, small))
 
-  not_named : (t : Bool) {P : Type 0} → t ≡ true → not t ≡ true → P
-  not_named true e f = absurd (cc (f))
-  not_named false e f = absurd (cc (e))
+  stop_was : bytes_eq word (codes "t") ≡ true → and_then (two_numbers fields) (λ p. judged (stop p.0 p.1)) ≡ Ok event → IsEventLine script (word ∷ fields) event
+  stop_was named e =
+      let step = and_then_was (two_numbers fields) (λ p. judged (stop p.0 p.1)) event e in
+      let p = step.0 in
+      let tested = ranged_was (is_within 1 4 p.0 && nat_le p.1 2) (Stop p.0 p.1) event step.2 in
+      let parts = and_parts (is_within 1 4 p.0) (nat_le p.1 2) tested.0 in
+      subst (IsEventLine script (word ∷ fields)) tested.1 (words_are word (codes "t") fields _ named (two_was fields p step.1).words, (within_was 1 4 p.0 parts.0, leb-true p.1 2 parts.1))
 
-  event_by : not (bytes_eq word (codes "t")) ≡ true → event_line script (word ∷ fields) ≡ Ok event → IsEventLine script (word ∷ fields) event
-  event_by now e =
-      branch (bytes_eq word (codes "b")) _ _ event e (λ named x. client_was (codes "b") (λ client. Begin client) named x (λ client within. (refl, (within, tt))))
-      (λ a f. branch (bytes_eq word (codes "a")) _ _ event f (λ named x. client_was (codes "a") (λ client. Append client) named x (λ client within. (refl, (within, tt))))
-      (λ b g. branch (bytes_eq word (codes "e")) _ _ event g (λ named x. client_was (codes "e") (λ client. End client) named x (λ client within. (refl, (within, tt))))
-      (λ c h. branch (bytes_eq word (codes "f")) _ _ event h (λ named x. client_was (codes "f") (λ client. Refuse client) named x (λ client within. (refl, (within, tt))))
+  event_by : event_line script (word ∷ fields) ≡ Ok event → IsEventLine script (word ∷ fields) event
+  event_by e =
+      branch (bytes_eq word (codes "b")) _ _ event e (λ named x. client_was (codes "b") (λ client. Begin client) named x (λ client within. (refl, within)))
+      (λ a f. branch (bytes_eq word (codes "a")) _ _ event f (λ named x. client_was (codes "a") (λ client. Append client) named x (λ client within. (refl, within)))
+      (λ b g. branch (bytes_eq word (codes "e")) _ _ event g (λ named x. client_was (codes "e") (λ client. End client) named x (λ client within. (refl, within)))
+      (λ c h. branch (bytes_eq word (codes "f")) _ _ event h (λ named x. client_was (codes "f") (λ client. Refuse client) named x (λ client within. (refl, within)))
       (λ d i. branch (bytes_eq word (codes "p")) _ _ event i pad_was
       (λ k l. branch (bytes_eq word (codes "r")) _ _ event l publish_was
-      (λ m n. not_named (bytes_eq word (codes "t")) (if_was (bytes_eq word (codes "t")) (and_then (two_numbers fields) (λ p. judged (stop p.0 p.1))) Word event n).0 now))))))
+      (λ m n. branch (bytes_eq word (codes "t")) _ _ event n stop_was
+      (λ o q. absurd (cc (q)))))))))
 
 pub event_was : (script : Workload) (words : List Text) (event : Event) → event_of script words ≡ Ok event → IsEventLine script words event
 event_was script [] event e = cc
 event_was script (word ∷ fields) event e =
-    let now = if_was (not (bytes_eq word (codes "t"))) (read_line (event_forms script) (word ∷ fields)) Word event e in
-    event_by script word fields event now.0 (event_same script (word ∷ fields) ∙ now.1)
+    event_by script word fields event (event_same script (word ∷ fields) ∙ e)
 
 -- all of the lines
 

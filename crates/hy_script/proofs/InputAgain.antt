@@ -15,7 +15,7 @@ use Rattle.hy_base.specs.Shape.{IsWithin, is_within}
 use Rattle.hy_base.specs.Spelling.{Text, event_words, line}
 use Rattle.hy_script.specs.Fields.{and_then, one_number}
 use Rattle.hy_script.specs.Forms.{judged}
-use Rattle.hy_script.specs.Grammar.{Place, Outset, Listing, Scheduled, client_event, event_of, makes_if, publish}
+use Rattle.hy_script.specs.Grammar.{Place, Outset, Listing, Scheduled, client_event, event_of, makes_if, publish, stop}
 use Rattle.hy_script.specs.Laws.{IsEventSpellable, IsSpellable, ReadsItsInput, event_lines}
 use Rattle.hy_script.specs.Lines.{lines_of, numbered_lines, offset_after, words_of}
 use Rattle.hy_script.specs.Parts.{after_listing, leading}
@@ -53,18 +53,21 @@ module _ (script : Workload) (s : IsSpellable script) where
   servers = s.lawful.servers.at_most
 
   event_flat : (event : Event) → IsEventSpellable script event → event_line script (event_words event) ≡ Ok event
-  event_flat (Begin client) e = client_event_again script (λ c. Begin c) client few e.0
-  event_flat (Append client) e = client_event_again script (λ c. Append c) client few e.0
-  event_flat (End client) e = client_event_again script (λ c. End c) client few e.0
-  event_flat (Refuse client) e = client_event_again script (λ c. Refuse c) client few e.0
+  event_flat (Begin client) e = client_event_again script (λ c. Begin c) client few e
+  event_flat (Append client) e = client_event_again script (λ c. Append c) client few e
+  event_flat (End client) e = client_event_again script (λ c. End c) client few e
+  event_flat (Refuse client) e = client_event_again script (λ c. Refuse c) client few e
   event_flat (Pad server) e =
-      ap (λ read. and_then read (λ n. judged (makes_if ((is_within 1 script.servers n, Range) ∷ []) (Pad n)))) (one_again server (omega (arith, servers, e.0.at_most)))
-      ∙ ranged_again (is_within 1 script.servers server) (Pad server) (within_is 1 script.servers server e.0)
+      ap (λ read. and_then read (λ n. judged (makes_if ((is_within 1 script.servers n, Range) ∷ []) (Pad n)))) (one_again server (omega (arith, servers, e.at_most)))
+      ∙ ranged_again (is_within 1 script.servers server) (Pad server) (within_is 1 script.servers server e)
   event_flat (Publish server upto) e =
-      ap (λ read. and_then read (λ p. judged (publish script p.0 p.1))) (two_again server upto (omega (arith, servers, e.0.0.at_most)) (omega (arith, e.0.1)))
+      ap (λ read. and_then read (λ p. judged (publish script p.0 p.1))) (two_again server upto (omega (arith, servers, e.0.at_most)) (omega (arith, e.1)))
       ∙ ranged_again (is_within 1 script.servers server && nat_le upto 4294967295) (Publish server upto)
-      (and_from (is_within 1 script.servers server) (nat_le upto 4294967295) (within_is 1 script.servers server e.0.0) (le-leb upto 4294967295 (omega (arith, e.0.1))))
-  event_flat (Stop call pattern) e = absurd (e.1)
+      (and_from (is_within 1 script.servers server) (nat_le upto 4294967295) (within_is 1 script.servers server e.0) (le-leb upto 4294967295 (omega (arith, e.1))))
+  event_flat (Stop call pattern) e =
+      ap (λ read. and_then read (λ p. judged (stop p.0 p.1))) (two_again call pattern (omega (arith, e.0.at_most)) (omega (arith, e.1)))
+      ∙ ranged_again (is_within 1 4 call && nat_le pattern 2) (Stop call pattern)
+      (and_from (is_within 1 4 call) (nat_le pattern 2) (within_is 1 4 call e.0) (le-leb pattern 2 e.1))
 
   event_again : (event : Event) → IsEventSpellable script event → event_of script (event_words event) ≡ Ok event
   event_again (Begin client) e = sym (event_same script (event_words (Begin client))) ∙ event_flat (Begin client) e
@@ -73,17 +76,18 @@ module _ (script : Workload) (s : IsSpellable script) where
   event_again (Refuse client) e = sym (event_same script (event_words (Refuse client))) ∙ event_flat (Refuse client) e
   event_again (Pad server) e = sym (event_same script (event_words (Pad server))) ∙ event_flat (Pad server) e
   event_again (Publish server upto) e = sym (event_same script (event_words (Publish server upto))) ∙ event_flat (Publish server upto) e
-  event_again (Stop call pattern) e = absurd (e.1)
+  event_again (Stop call pattern) e = sym (event_same script (event_words (Stop call pattern))) ∙ event_flat (Stop call pattern) e
 
   event_speech : (event : Event) → IsEventSpellable script event → IsSpeech (event_words event)
-  event_speech (Begin client) e = record { visible = (refl, (visible_decimal client (omega (arith, few, e.0.at_most)), tt)); says_some = refl }
-  event_speech (Append client) e = record { visible = (refl, (visible_decimal client (omega (arith, few, e.0.at_most)), tt)); says_some = refl }
-  event_speech (End client) e = record { visible = (refl, (visible_decimal client (omega (arith, few, e.0.at_most)), tt)); says_some = refl }
-  event_speech (Refuse client) e = record { visible = (refl, (visible_decimal client (omega (arith, few, e.0.at_most)), tt)); says_some = refl }
-  event_speech (Pad server) e = record { visible = (refl, (visible_decimal server (omega (arith, servers, e.0.at_most)), tt)); says_some = refl }
+  event_speech (Begin client) e = record { visible = (refl, (visible_decimal client (omega (arith, few, e.at_most)), tt)); says_some = refl }
+  event_speech (Append client) e = record { visible = (refl, (visible_decimal client (omega (arith, few, e.at_most)), tt)); says_some = refl }
+  event_speech (End client) e = record { visible = (refl, (visible_decimal client (omega (arith, few, e.at_most)), tt)); says_some = refl }
+  event_speech (Refuse client) e = record { visible = (refl, (visible_decimal client (omega (arith, few, e.at_most)), tt)); says_some = refl }
+  event_speech (Pad server) e = record { visible = (refl, (visible_decimal server (omega (arith, servers, e.at_most)), tt)); says_some = refl }
   event_speech (Publish server upto) e =
-      record { visible = (refl, (visible_decimal server (omega (arith, servers, e.0.0.at_most)), (visible_decimal upto (omega (arith, e.0.1)), tt))); says_some = refl }
-  event_speech (Stop call pattern) e = absurd (e.1)
+      record { visible = (refl, (visible_decimal server (omega (arith, servers, e.0.at_most)), (visible_decimal upto (omega (arith, e.1)), tt))); says_some = refl }
+  event_speech (Stop call pattern) e =
+      record { visible = (refl, (visible_decimal call (omega (arith, e.0.at_most)), (visible_decimal pattern (omega (arith, e.1)), tt))); says_some = refl }
 
   abbrev with_event : ℕ → Result (List EventLine) Refused → Result Event Why → Result (List EventLine) Refused
   with_event number more first =

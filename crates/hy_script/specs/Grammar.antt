@@ -10,7 +10,6 @@ use Rattle.hy_base.specs.Script.{Workload, client_count}
 use Rattle.hy_base.specs.Shape.{is_within}
 use Rattle.hy_base.specs.Value.{is_value}
 use Rattle.hy_base.specs.Spelling.{Text}
-use Rattle.hy_script.specs.ForNow.{is_event_for_now}
 use Rattle.hy_script.specs.Forms.{Meaning, LineForm, Alone, OneNumber, TwoNumbers, ThreeNumbers, NumberAndText, read_line}
 use Rattle.hy_script.specs.declared.why.Why.{Why}
 use Rattle.hy_script.specs.declared.why.Why.TheVariants.{Word, Value, Range, Order, Count}
@@ -137,4 +136,4 @@ event_forms script =
 
 -- the event of a line of these words, or the first cause against it
 abbrev pub event_of : Workload → List Text → Result Event Why
-event_of script words = if is_event_for_now words then read_line (event_forms script) words else Err Word
+event_of script words = read_line (event_forms script) words

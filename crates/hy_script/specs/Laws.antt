@@ -10,7 +10,6 @@ use Rattle.hy_base.specs.declared.workload.Program.{Program}
 use Rattle.hy_base.specs.Script.{Workload, IsScript}
 use Rattle.hy_base.specs.Shape.{IsWithin}
 use Rattle.hy_base.specs.Spelling.{Text, event_words}
-use Rattle.hy_script.specs.ForNow.{IsEventForNow}
 use Rattle.hy_script.specs.Lines.{numbered_lines, words_of}
 use Rattle.hy_script.specs.Reading.{read_script, read_schedule}
 use Rattle.hy_script.specs.Spelling.{script_lines, script_text, schedule_text, input_text}
@@ -37,19 +36,15 @@ pub record IsSpellable (script : Workload) : Type 0 where
   pub lawful : IsScript script
   pub clients : AllByRecursion ClientFits script.clients
 
--- an event of declared clients and servers
-abbrev pub IsEventOf : Workload → Event → Type 0
-IsEventOf script (Begin client) = IsWithin 1 (length script.clients) client
-IsEventOf script (Append client) = IsWithin 1 (length script.clients) client
-IsEventOf script (End client) = IsWithin 1 (length script.clients) client
-IsEventOf script (Refuse client) = IsWithin 1 (length script.clients) client
-IsEventOf script (Pad server) = IsWithin 1 script.servers server
-IsEventOf script (Publish server upto) = IsWithin 1 script.servers server × (upto < 2 ^ 32)
-IsEventOf script (Stop call pattern) = IsWithin 1 4 call × (pattern ≤ 2)
-
--- that can be written
+-- an event that can be written: one of declared clients and servers, or a stop
 abbrev pub IsEventSpellable : Workload → Event → Type 0
-IsEventSpellable script event = IsEventOf script event × IsEventForNow event
+IsEventSpellable script (Begin client) = IsWithin 1 (length script.clients) client
+IsEventSpellable script (Append client) = IsWithin 1 (length script.clients) client
+IsEventSpellable script (End client) = IsWithin 1 (length script.clients) client
+IsEventSpellable script (Refuse client) = IsWithin 1 (length script.clients) client
+IsEventSpellable script (Pad server) = IsWithin 1 script.servers server
+IsEventSpellable script (Publish server upto) = IsWithin 1 script.servers server × (upto < 2 ^ 32)
+IsEventSpellable script (Stop call pattern) = IsWithin 1 4 call × (pattern ≤ 2)
 
 -- What a script spells is read as that script.
 abbrev pub ReadsItsSpelling : Type 0

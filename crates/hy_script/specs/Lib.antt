@@ -1,6 +1,5 @@
 pub mod Causes
 pub mod Lines
-pub mod ForNow
 pub mod Forms
 pub mod Fields
 pub mod Grammar

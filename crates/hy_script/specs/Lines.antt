@@ -26,10 +26,6 @@ lines_of bytes = without_empty_end (pieces_of 10 bytes)
 abbrev pub words_of : Text → List Text
 words_of line = pieces_of 32 line
 
-abbrev pub has_first_word : Text → List Text → Bool
-has_first_word word [] = false
-has_first_word word (first ∷ fields) = bytes_eq first word
-
 -- an empty line, or a comment
 abbrev pub is_skipped : Text → Bool
 is_skipped [] = true

@@ -1,12 +1,12 @@
 //! Events of a schedule.
 ghost use Rattle.std.specs.Prelude.{◌≡◌, ℕ, List, length, ◌≤◌, IfOk};
 ghost use Rattle.hy_script.specs.Fields.{HasFields, in_range, and_then, one_number, two_numbers};
-ghost use Rattle.hy_script.specs.Forms.{judged, read_line};
-ghost use Rattle.hy_script.specs.Grammar.{event_forms, event_of, publish, stop};
+ghost use Rattle.hy_script.specs.Forms.{judged};
+ghost use Rattle.hy_script.specs.Grammar.{event_of, publish, stop};
 ghost use Rattle.hy_script.specs.Lines.{words_of};
 
 use crate::Why;
-use crate::words::{Fields, cut_fields, has_first_word, one_number, two_numbers};
+use crate::words::{Fields, cut_fields, one_number, two_numbers};
 use hy_base::{Event, Script};
 
 // A number between two others.
@@ -65,10 +65,10 @@ fn stop_of(fields: Fields<'_>) -> Result<Event, Why>
     }
 }
 
-// The event of a line, or why it is none, by the table of events.
+/// The event of a line, or why it is none.
 #[tactic(auto, using(crate::proofs::FieldLemmas::read_two))]
-fn read_any_event(script: &Script, line: &[u8]) -> Result<Event, Why>
-    ensures { result ≡ read_line (event_forms script.now) (words_of line.now) }
+pub fn read_event(script: &Script, line: &[u8]) -> Result<Event, Why>
+    ensures { result ≡ event_of script.now (words_of line.now) }
 {
     let (word, fields) = cut_fields(line);
     match word {
@@ -91,15 +91,4 @@ fn read_any_event(script: &Script, line: &[u8]) -> Result<Event, Why>
         [b't'] => stop_of(fields),
         _ => Err(Why::Word),
     }
-}
-
-/// The event of a line, or why it is none.
-pub fn read_event(script: &Script, line: &[u8]) -> Result<Event, Why>
-    ensures { result ≡ event_of script.now (words_of line.now) }
-{
-    // FOR NOW no stop can be ordered. (To lift it, delete this test.)
-    if has_first_word(line, b"t") {
-        return Err(Why::Word);
-    }
-    read_any_event(script, line)
 }

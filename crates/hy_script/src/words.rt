@@ -1,7 +1,7 @@
 //! How a line is cut into its first word and its fields.
 ghost use Rattle.std.specs.Prelude.{◌≡◌, ℕ, List, ◌∷◌, []};
 ghost use Rattle.std.specs.Option.{option_map_or};
-ghost use Rattle.hy_script.specs.Lines.{has_first_word, pieces_of, words_of};
+ghost use Rattle.hy_script.specs.Lines.{pieces_of, words_of};
 ghost use Rattle.hy_script.specs.Fields.{HasFields, HasWords, number_field, one_number, two_numbers, three_numbers, number_and_text, no_fields};
 ghost use Rattle.std.specs.Result.{result_map_both};
 
@@ -57,14 +57,6 @@ pub fn cut_fields(line: &[u8]) -> (&[u8], Fields<'_>)
 {
     let (word, rest) = cut(b' ', line);
     (word, fields_of(rest))
-}
-
-/// Whether a line begins with this word.
-pub fn has_first_word(line: &[u8], word: &[u8]) -> bool
-    ensures { result ≡ has_first_word word.now (words_of line.now) }
-{
-    let (first, _) = cut(b' ', line);
-    first == word
 }
 
 fn number_field(field: &[u8]) -> Result<u64, Why>

@@ -1,0 +1,189 @@
+//! What a stop leaves, and the restart after it.
+ghost use Rattle.std.specs.Prelude.{◌≡◌, ◌⊎◌, ◌+◌, ◌-◌, ◌<◌, ◌≤◌, ◌++◌, ◌∷◌, [], ◌^◌, length, replicate, take, drop, vec_len, vec_capacity, Some, None, IfOk, OnOk, OnErr};
+ghost use Rattle.std.specs.List.{AllByRecursion};
+ghost use Rattle.hy_base.specs.Log.{IsLawful};
+ghost use Rattle.hy_base.specs.Shape.{IsWithin, IsGoodShape, whole_groups};
+ghost use Rattle.hy_rules.specs.Moves.{is_kept};
+ghost use Rattle.hy_memlog.specs.Pages.{IsStop};
+ghost use Rattle.hy_core.specs.Parts.{IsHolding, AreRestarted, HasPlaces, SeatFits, HasRestarted, abandoned_seat, abandoned_told, kept_by, struck, broken, held};
+
+use crate::parts::{Answered, End, Parts, Seat, roller_of};
+use hy_base::{Answers, ArmedStop, Entry, Phase, Pos, Script, Session, Shape, Shared};
+use hy_codec::encode;
+use hy_pipe::{Gate, Roller};
+use std::alloc::{AllocError, Global};
+use std::thread::Threads;
+
+/// Whether a stop keeps the entry in whose append it strikes.
+pub(crate) fn is_kept(stop: ArmedStop) -> bool
+    ensures { result ≡ is_kept stop }
+{
+    stop.call >= 3 && stop.pattern == 1
+}
+
+// The end of the last whole group.
+fn whole(shape: Shape, len: Pos) -> Pos
+    requires { IsGoodShape shape }
+    ensures { result ≡ whole_groups shape len }
+{
+    len - len % u32::from(shape.group)
+}
+
+fn past(log: &[Shared<Entry>], from: Pos) -> &[Shared<Entry>]
+    requires { from ≤ length log.now }
+    ensures { result.now ≡ drop from log.now }
+{
+    &log[from as usize..]
+}
+
+fn first(log: &[Shared<Entry>], count: Pos) -> &[Shared<Entry>]
+    requires { count ≤ length log.now }
+    ensures { result.now ≡ take count log.now }
+{
+    &log[..count as usize]
+}
+
+fn shares(alloc: Global, log: &[Shared<Entry>]) -> Result<Vec<Shared<Entry>>, AllocError>
+    ensures { IfOk result (λ entries. entries.items ≡ log.now) }
+{
+    let mut entries = Vec::with_capacity(alloc, log.len())?;
+    for entry in log {
+        entries.push(entry.share()?)?;
+    }
+    Ok(entries)
+}
+
+// Shares of these entries, and of one more where a stop keeps it.
+fn shares_with(
+    alloc: Global,
+    log: &[Shared<Entry>],
+    entry: &Shared<Entry>,
+    stop: ArmedStop,
+) -> Result<Vec<Shared<Entry>>, AllocError>
+    ensures { IfOk result (λ entries. entries.items ≡ log.now ++ kept_by stop entry.now) }
+{
+    let mut entries = shares(alloc, log)?;
+    if is_kept(stop) {
+        entries.push(entry.share()?)?;
+    }
+    Ok(entries)
+}
+
+// One and the same roller, for each server.
+fn for_each_server(alloc: Global, roller: &Roller, servers: u8) -> Result<Vec<Roller>, AllocError>
+    ensures { IfOk result (λ rollers. rollers.items ≡ replicate servers roller.now) }
+{
+    let mut rollers = Vec::new(alloc);
+    for _server in 0..servers {
+        rollers.push(roller.share()?)?;
+    }
+    Ok(rollers)
+}
+
+// The boards after a restart on the log and the entry that the stop keeps: the first server's roller goes on from its
+// board to the end of the last whole group, and all servers share it.
+fn restarted<R: Threads + Sync, G: Gate + Sync>(
+    rt: &R,
+    alloc: Global,
+    script: &Script,
+    core: &Parts,
+    entry: &Shared<Entry>,
+    stop: ArmedStop,
+    threads: usize,
+    gate: &G,
+) -> Result<Vec<Roller>, AllocError>
+    requires holding { IsHolding script.now (held core.now) }
+    requires lawful { IsLawful script.now.shape ((held core.now).log ++ kept_by stop entry.now) }
+    requires threads { IsWithin 1 16 threads }
+    ensures { IfOk result (λ rollers. AreRestarted script.now ((held core.now).log ++ kept_by stop entry.now) rollers.items) }
+{
+    let shape = script.shape();
+    let Some(roller) = roller_of(&core.rollers, 1) else {
+        unreachable!();
+    };
+    let from = roller.at();
+    let entries = shares_with(alloc, past(&core.log, from), entry, stop)?;
+    let upto = whole(shape, from + entries.len() as Pos);
+    let rolled = roller.roll(rt, alloc, first(&entries, upto - from), threads, gate)?;
+    for_each_server(alloc, &rolled, script.servers())
+}
+
+/// A stop strikes in the append of an entry: it is on the device exactly where the stop keeps it. Answers the boards on
+/// what is left. Out of memory, all is as before, or the log on the device is broken.
+pub(crate) fn strike<R: Threads + Sync, G: Gate + Sync>(
+    rt: &R,
+    alloc: Global,
+    script: &Script,
+    core: &mut Parts,
+    entry: &Shared<Entry>,
+    stop: ArmedStop,
+    threads: usize,
+    gate: &G,
+) -> Result<Vec<Roller>, AllocError>
+    requires holding { IsHolding script.now (held core.old) }
+    requires room_left { HasPlaces (held core.old).pages 1 }
+    requires stop { IsStop stop }
+    requires lawful { IsLawful script.now.shape ((held core.old).log ++ kept_by stop entry.now) }
+    requires threads { IsWithin 1 16 threads }
+    ensures ok { OnOk result (held core.new ≡ struck stop entry.now (held core.old)) }
+    ensures boards { IfOk result (λ rollers. AreRestarted script.now ((held core.old).log ++ kept_by stop entry.now) rollers.items) }
+    ensures places { (core.new.log ≡ core.old.log) × (core.new.told ≡ core.old.told) }
+    ensures err { OnErr result ((held core.new ≡ held core.old) ⊎ (held core.new ≡ broken (held core.old))) }
+{
+    let body = encode(alloc, entry.get())?;
+    let rollers = restarted(rt, alloc, script, core, entry, stop, threads, gate)?;
+    core.pages.stop(alloc, &body, stop)?;
+    Ok(rollers)
+}
+
+/// Adds an entry where a stop keeps it. There is a place for it.
+pub(crate) fn keep(log: &mut Vec<Shared<Entry>>, entry: Shared<Entry>, stop: ArmedStop)
+    requires { vec_len log.old < vec_capacity log.old }
+    ensures { log.new.items ≡ log.old.items ++ kept_by stop entry }
+{
+    if is_kept(stop) {
+        log.push_reserved(entry);
+    }
+}
+
+// A begun client's program is lost, and the client goes on to the next.
+fn abandon(alloc: Global, seat: &mut Seat, told: &mut Vec<Answered>, client: u8)
+    requires place { vec_len told.old < vec_capacity told.old }
+    requires fits { seat.old.session.next + 1 < 2 ^ 32 }
+    ensures seat { seat.new ≡ abandoned_seat seat.old }
+    ensures told { told.new.items ≡ told.old.items ++ abandoned_told client seat.old }
+    ensures more { vec_len told.new ≤ vec_len told.old + 1 }
+    ensures capacity { vec_capacity told.new ≡ vec_capacity told.old }
+{
+    let Session { next, phase, last } = seat.session;
+    let Phase::Begun { snap } = phase else {
+        return;
+    };
+    seat.session = Session {
+        next: next + 1,
+        phase: Phase::Idle,
+        last,
+    };
+    seat.running = None;
+    told.push_reserved(Answered {
+        client,
+        number: next,
+        snap,
+        end: End::Stopped,
+        answers: Answers::new(alloc),
+    });
+}
+
+/// The servers and the clients restart: the boards are these, each begun program is lost, and no stop is armed.
+pub(crate) fn settle(alloc: Global, core: &mut Parts, rollers: Vec<Roller>)
+    requires places { vec_len core.old.told + length core.old.seats.items ≤ vec_capacity core.old.told }
+    requires few { length core.old.seats.items ≤ 128 }
+    requires fit { AllByRecursion SeatFits core.old.seats.items }
+    ensures { HasRestarted (held core.old) (held core.new) rollers.items }
+{
+    core.rollers = rollers;
+    core.armed = None;
+    for at in 0..core.seats.len() {
+        abandon(alloc, &mut core.seats[at], &mut core.told, at as u8 + 1);
+    }
+}

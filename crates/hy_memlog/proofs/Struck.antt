@@ -1,0 +1,123 @@
+-- What a stop leaves of an append.
+use Rattle.std.proofs.Common.{◌≡◌, ◌≢◌, ◌⊎◌, inl, inr, ◌∙◌, ℕ, ◌+◌, ◌-◌, ◌*◌, ◌<◌, ◌≤◌, Bool, true, false, List, [], ◌∷◌, ◌++◌, length, Some, None, ap, sym, subst, arith, refl}
+use Rattle.std.specs.Prelude.{Result, Ok, Err, is_ok, IfOk, nat_le, ◌==◌, ◌&&◌, replicate, if◌then◌else◌}
+use Rattle.std.proofs.lemmas.List.{append-nil}
+use Rattle.std.proofs.lemmas.Bool.{cases_lt, cases_eq}
+use Rattle.hy_base.specs.declared.layout.Shape.{Shape}
+use Rattle.hy_base.specs.declared.workload.ArmedStop.{ArmedStop}
+use Rattle.hy_rules.specs.Moves.{is_kept}
+use Rattle.hy_disk.specs.Content.{Content}
+use Rattle.hy_disk.specs.Stops.{stopped}
+use Rattle.hy_log.specs.declared.log.AppendError.{AppendError}
+use Rattle.hy_log.specs.declared.log.AppendError.TheVariants as appending
+use Rattle.hy_log.specs.View.{View, Holds}
+use Rattle.hy_rules.specs.LogFormat.{page_count}
+use Rattle.hy_mem.specs.declared.memory.MemDisk.{MemDisk}
+use Rattle.hy_mem.specs.MemDisk.{HasRoom, Strikes}
+use Rattle.hy_mem.specs.RoomLaws.{room_shrinks}
+use Rattle.hy_memlog.specs.Pages.{IsStop, HasRoomFor, with_body}
+
+abbrev pub Appended : Type 0
+Appended = Result ℕ AppendError
+
+-- The append has failed, and the stop leaves the bodies before, or these and the new one, as it keeps it.
+pub record IsStruck (shape : Shape) (bodies : List (List ℕ)) (body : List ℕ) (stop : ArmedStop) (result : Appended) (content : Content) : Type 0 where
+  pub failed : result ≡ Err appending.Device
+  pub left : Holds shape (with_body (Some stop) 1 body bodies) (stopped stop.pattern content)
+
+-- in one of the first two calls
+abbrev pub Behind : Shape → List (List ℕ) → Appended → Content → Type 0
+Behind shape bodies result content = (result ≡ Err appending.Device) × ((pattern : ℕ) → Holds shape bodies (stopped pattern content))
+
+-- in one of the last two
+abbrev pub AtGate : Shape → List (List ℕ) → List ℕ → Appended → Content → Type 0
+AtGate shape bodies body result content =
+    (result ≡ Err appending.Device) × ((pattern : ℕ) → pattern ≢ 1 → Holds shape bodies (stopped pattern content)) × Holds shape (bodies ++ body ∷ []) (stopped 1 content)
+
+by_kept : (stop : ArmedStop) (kept : Bool) (body : List ℕ) (bodies : List (List ℕ)) → is_kept stop ≡ kept → with_body (Some stop) 1 body bodies ≡ bodies ++ replicate (if kept then 1 else 0) body
+by_kept stop kept body bodies is = ap (λ (b : Bool). bodies ++ replicate (if b then 1 else 0) body) is
+
+dropped : (stop : ArmedStop) (body : List ℕ) (bodies : List (List ℕ)) → is_kept stop ≡ false → bodies ≡ with_body (Some stop) 1 body bodies
+dropped stop body bodies is = sym (by_kept stop false body bodies is ∙ append-nil bodies)
+
+kept : (stop : ArmedStop) (body : List ℕ) (bodies : List (List ℕ)) → is_kept stop ≡ true → bodies ++ body ∷ [] ≡ with_body (Some stop) 1 body bodies
+kept stop body bodies is = sym (by_kept stop true body bodies is)
+
+pub struck : (shape : Shape) (bodies : List (List ℕ)) (body : List ℕ) (stop : ArmedStop) (result : Appended) (content : Content) → IsStop stop
+    → (stop.call ≤ 2 → Behind shape bodies result content) → (3 ≤ stop.call → AtGate shape bodies body result content) → IsStruck shape bodies body stop result content
+struck shape bodies body stop result content is behind gate = elim (cases_lt stop.call 3) [
+  | inl early ↦
+      let b : Behind shape bodies result content = behind (omega (arith, early)) in
+      let no : is_kept stop ≡ false = early_drops stop early in
+      record { failed = b.0; left = subst (λ (bs : List (List ℕ)). Holds shape bs (stopped stop.pattern content)) (dropped stop body bodies no) (b.1 stop.pattern) }
+  | inr late ↦ at_gate (gate (omega (arith, late))) (omega (arith, late)) (cases_eq stop.pattern 1)
+]
+  where
+    early_drops : (s : ArmedStop) → s.call < 3 → is_kept s ≡ false
+    early_drops s early = let no : nat_le 3 s.call ≡ false = grind (arith, early) in ap (λ (b : Bool). b && (s.pattern == 1)) no
+
+    late_keeps : (s : ArmedStop) → 3 ≤ s.call → s.pattern ≡ 1 → is_kept s ≡ true
+    late_keeps s late one =
+        let yes : nat_le 3 s.call ≡ true = grind (arith, late) in
+        let same : (s.pattern == 1) ≡ true = grind (arith, one) in
+        ap (λ (b : Bool). b && (s.pattern == 1)) yes ∙ same
+
+    late_drops : (s : ArmedStop) → s.pattern ≢ 1 → is_kept s ≡ false
+    late_drops s other =
+        let no : (s.pattern == 1) ≡ false = grind (arith, other) in
+        ap (λ (b : Bool). nat_le 3 s.call && b) no ∙ neither (nat_le 3 s.call)
+      where
+        neither : (b : Bool) → (b && false) ≡ false
+        neither true = refl
+        neither false = refl
+
+    at_gate : AtGate shape bodies body result content → 3 ≤ stop.call → (stop.pattern ≡ 1) ⊎ (stop.pattern ≢ 1) → IsStruck shape bodies body stop result content
+    at_gate g late (inl one) = record {
+      failed = g.0;
+      left = subst (λ (bs : List (List ℕ)). Holds shape bs (stopped stop.pattern content)) (kept stop body bodies (late_keeps stop late one))
+          (subst (λ (n : ℕ). Holds shape (bodies ++ body ∷ []) (stopped n content)) (sym one) g.2);
+    }
+    at_gate g late (inr other) = record {
+      failed = g.0;
+      left = subst (λ (bs : List (List ℕ)). Holds shape bs (stopped stop.pattern content)) (dropped stop body bodies (late_drops stop other)) (g.1 stop.pattern other);
+    }
+
+-- ---- an append on a device on which a call was ordered to fail
+
+-- the log as it was, but for the order
+abbrev pub IsSame : View MemDisk → View MemDisk → Type 0
+IsSame armed log = (armed.shape ≡ log.shape) × (armed.stopped ≡ log.stopped) × (armed.bodies ≡ log.bodies) × (armed.spare ≡ log.spare)
+
+-- the append's clauses on the order
+abbrev pub WhereOrdered : View MemDisk → ℕ → ℕ → ℕ → Type 0 → Type 0
+WhereOrdered armed size low high P =
+    length armed.bodies ≢ armed.shape.cap → armed.stopped ≡ None → (k : ℕ) → low ≤ k → k ≤ high → Strikes armed.disk k → HasRoom armed.disk (k - 1) (1 + 256 * page_count size) → P
+
+pub strike_leaves : (log armed : View MemDisk) (body : List ℕ) (stop : ArmedStop) (call : ℕ) (result : Appended) (content : Content)
+    → HasRoomFor (length body) 1 log → length log.bodies < log.shape.cap → IsStop stop → call ≡ stop.call → IsSame armed log → Strikes armed.disk call
+    → ((b : ℕ) → HasRoom log.disk call b → HasRoom armed.disk (call - 1) b)
+    → WhereOrdered armed (length body) 1 2 (Behind armed.shape armed.bodies result content)
+    → WhereOrdered armed (length body) 3 4 (AtGate armed.shape armed.bodies body result content)
+    → IsStruck log.shape log.bodies body stop result content
+strike_leaves log armed body stop call result content ready some is_stop is same strikes room behind gate =
+    let pages : ℕ = 1 + 256 * page_count (length body) in
+    let more : length armed.bodies ≢ armed.shape.cap = λ full. omega (arith, full, some, ap length same.2, ap (λ (s : Shape). s.cap) same.0) in
+    let running : armed.stopped ≡ None = same.1 ∙ ready.steady.running in
+    let least : 1 ≤ call = omega (arith, is, is_stop.call.at_least) in
+    let most : call ≤ 4 = omega (arith, is, is_stop.call.at_most) in
+    let left : HasRoom armed.disk (call - 1) pages = room pages (room_shrinks log.disk call (4 * 1) pages (1 * (1 + 256 * page_count (length body))) ready.pages (omega (arith, most)) (omega arith)) in
+    subst (λ (k : Shape × List (List ℕ)). IsStruck k.0 k.1 body stop result content) (λ i. (same.0 i, same.2 i))
+    (struck armed.shape armed.bodies body stop result content is_stop
+    (λ early. behind more running call least (omega (arith, is, early)) strikes left)
+    (λ late. gate more running call (omega (arith, is, late)) most strikes left))
+
+failed_is_not_ok : {A : Type 0} (r : Appended) → r ≡ Err appending.Device → is_ok r ≡ true → A
+failed_is_not_ok (Ok at) is ok = absurd (cc)
+failed_is_not_ok (Err e) is ok = absurd (cc)
+
+pub not_ok : {A : Type 0} (r : Appended) → r ≡ Err appending.Device → is_ok r ≡ true → A
+not_ok r is ok = failed_is_not_ok r is ok
+
+pub map_ok : {X E : Type 0} (P Q : X → Type 0) (r : Result X E) → ((x : X) → P x → Q x) → IfOk r P → IfOk r Q
+map_ok P Q (Ok x) each is = each x is
+map_ok P Q (Err e) each is = tt
