@@ -7,7 +7,8 @@ use Rattle.std.proofs.lemmas.List.{drop_at, drop_more, get_or_at, get_or-drop, d
 use Rattle.std.proofs.lemmas.Bool.Decides.{nat_tests}
 use Rattle.std.proofs.lemmas.Nat.{from_le_bytes-to_le_bytes_4}
 use Rattle.hy_rules.specs.LogFormat.{page_count, IsBody, record_rest, byte_at, record_in, is_open, stands_behind}
-use Rattle.hy_pages.specs.Words.{AreBytes, IsTorn}
+use Rattle.hy_rules.specs.Reading.{AreBytes}
+use Rattle.hy_pages.specs.Words.{IsTorn}
 use Rattle.hy_pages.specs.Laws.{ClosedIsFrontier, TornIsFrontier, FrontierIsOne, GateIsPieced, FrontierIsPieced}
 use Rattle.hy_pages.proofs.Parts.{is_ok_is}
 use Rattle.hy_pages.proofs.Records.{told_length, length-rest, record_is_read, record_is_one}

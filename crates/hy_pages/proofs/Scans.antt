@@ -7,9 +7,9 @@ use Rattle.std.proofs.lemmas.List.{drop_at}
 use Rattle.hy_rules.specs.declared.damage.Damage.{Damage}
 use Rattle.hy_rules.specs.declared.damage.Damage.TheVariants as damage
 use Rattle.hy_rules.specs.declared.damage.BadPage.{BadPage}
-use Rattle.hy_rules.specs.Reading.{◌>>=◌}
+use Rattle.hy_rules.specs.Reading.{◌>>=◌, AreBytes}
 use Rattle.hy_rules.specs.LogFormat.{page_count, IsBody, record_bytes, byte_at, record_in, is_open, may_be_frontier, on_page, records_in}
-use Rattle.hy_pages.specs.Words.{AreBytes, pages_in, IsFrontier, IsRefused}
+use Rattle.hy_pages.specs.Words.{pages_in, IsFrontier, IsRefused}
 use Rattle.hy_pages.proofs.Parts.{cases_result, parts_are_bytes, drop_bytes}
 use Rattle.hy_pages.proofs.Records.{length-rest, record_is_read, record_is_one}
 use Rattle.hy_pages.proofs.Frontiers.{closed_is_frontier}

@@ -7,7 +7,8 @@ use Rattle.hy_base.specs.Shape.{IsGoodShape}
 use Rattle.hy_rules.specs.declared.damage.Damage.{Damage}
 use Rattle.hy_rules.specs.declared.damage.BadPage.{BadPage}
 use Rattle.hy_rules.specs.LogFormat.{page_count, IsBody, header_rest, header_page, record_rest, record_bytes, byte_at, header_in, record_in, is_open, may_be_frontier, is_unborn, log_in, Held}
-use Rattle.hy_pages.specs.Words.{AreBytes, pages_in, log_front, record_by, BeginsRecord, IsFront, IsFrontier, IsRefused, IsTorn, IsTornHeader, IsBadHeader, IsBadRecord, IsTold}
+use Rattle.hy_rules.specs.Reading.{AreBytes}
+use Rattle.hy_pages.specs.Words.{pages_in, log_front, record_by, BeginsRecord, IsFront, IsFrontier, IsRefused, IsTorn, IsTornHeader, IsBadHeader, IsBadRecord, IsTold}
 
 -- ---- headers
 

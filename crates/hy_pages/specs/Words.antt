@@ -1,5 +1,5 @@
 -- Words of the laws: what a device's bytes begin with, and where its records end.
-use Rattle.std.specs.Prelude.{◌≡◌, ◌≢◌, ℕ, ◌+◌, ◌-◌, ◌*◌, ◌<◌, ◌≤◌, ◌⊎◌, true, false, List, [], ◌∷◌, ◌++◌, length, take, drop, slice_index, codes, flat_map, Some, None, Result, Ok, Err, not, ◌==◌, nat_lt, if◌then◌else◌}
+use Rattle.std.specs.Prelude.{◌≡◌, ◌≢◌, ℕ, ◌+◌, ◌-◌, ◌*◌, ◌≤◌, ◌⊎◌, true, false, List, [], ◌∷◌, ◌++◌, length, take, drop, codes, flat_map, Some, None, Result, Ok, Err, not, ◌==◌, nat_lt, if◌then◌else◌}
 use Rattle.std.specs.Int.{w32, to_le_bytes}
 use Rattle.std.specs.List.{AllByRecursion}
 use Rattle.hy_base.specs.declared.layout.Shape.{Shape}
@@ -12,10 +12,6 @@ use Rattle.hy_rules.specs.LogFormat.{page_count, IsBody, header_rest, header_pag
 -- the bytes of a header up to its zeros
 abbrev pub header_head : Shape → List ℕ
 header_head s = 71 ∷ (codes "HYDERLOG" ++ (1 ∷ s.group ∷ s.window ∷ to_le_bytes w32 s.cap))
-
--- each number is a byte's
-abbrev pub AreBytes : List ℕ → Type 0
-AreBytes bytes = (i : ℕ) → slice_index bytes i < 256
 
 -- how many pages the records of these bodies take
 abbrev pub pages_in : List (List ℕ) → ℕ

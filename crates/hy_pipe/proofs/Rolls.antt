@@ -11,14 +11,14 @@ use Rattle.hy_base.specs.declared.record.Verdict.{Verdict}
 use Rattle.hy_base.specs.Shape.{IsGoodShape, base_groups}
 use Rattle.hy_rules.specs.History.{is_commit}
 use Rattle.hy_rules.specs.Validation.{Standing, fated}
-use Rattle.hy_rules.specs.Rolling.{staged_members, fate_on, Rolled, staged_next, roll_group, roll_groups, commits_past, commits_on, Roll, roll_on}
+use Rattle.hy_rules.specs.Rolling.{staged_members, fate_on, Rolled, staged_next, roll_group, roll_groups, commits_past, commits_on, IsRolled, Roll, roll_on}
 use Rattle.hy_final.specs.declared.finishing.Staged.{Staged}
 use Rattle.hy_final.specs.declared.finishing.Finished.{Finished}
 use Rattle.hy_final.specs.Finishing.{AreStaged, IsNext, IsFinishOf}
 use Rattle.hy_pipe.specs.Staging.{IsStaged}
 use Rattle.hy_pipe.specs.RollerLaws.{HasFlags}
 use Rattle.hy_rules.proofs.Windows.{base_low, base_rises}
-use Rattle.hy_rules.proofs.Cuts.{length-staged, rolled_groups}
+use Rattle.hy_rules.proofs.Cuts.{length-staged, rolled_groups, rolls_keep}
 
 fits_count : (g n q : ℕ) → g * q ≡ n → 0 < n → g ≤ n
 fits_count g n zero e h = omega (arith, e, h)
@@ -143,6 +143,13 @@ module _ (s : Shape) (r start ending : Rolled) (es : List EntryKind) (all : List
       let split : s.group * (length es / s.group) + length es % s.group ≡ length es = div-add-mod (length es) s.group in
       let found = counts (omega (arith, split, whole)) in
       (found.0, ap length joins ∙ omega (arith, length-append r.verdicts ending.verdicts, found.0, found.1, count))
+
+  -- the rows don't depend on the verdicts from before
+  pub roll_keeps : IsRolled s r → IsRolled s (with_verdicts all ending)
+  roll_keeps kept =
+      let from : ending ≡ roll_groups s (length es / s.group) (bare r) es = is ∙ ap (λ b. roll_groups s (length es / s.group) b es) begins in
+      let rolled : IsRolled s ending = subst (IsRolled s) (sym from) (rolls_keep s (length es / s.group) (bare r) es good (record { ordered = kept.ordered; bounded = kept.bounded; written = kept.written; base_written = kept.base_written; kept_written = kept.kept_written; base_later = kept.base_later; kept_later = kept.kept_later })) in
+      record { ordered = rolled.ordered; bounded = rolled.bounded; written = rolled.written; base_written = rolled.base_written; kept_written = rolled.kept_written; base_later = rolled.base_later; kept_later = rolled.kept_later }
 
 -- what a group makes of a roll: it is staged on the base rows and finished on the rows, and a window may end with it
 pub step_is : (s : Shape) (r : Rolled) (es : List EntryKind) (staged : Staged) (ending : Finished) (base_tree kept : List Row) (vs : List (Option Verdict)) → IsStaged s (r.groups + 1) r.base_tree es staged → IsFinishOf r.tree staged ending

@@ -6,7 +6,7 @@ use Rattle.hy_base.specs.Shape.{IsGoodShape}
 use Rattle.hy_base.specs.Log.{HaveLawfulSnaps}
 use Rattle.hy_rules.specs.Runs.{verdict_at}
 use Rattle.hy_rules.specs.Validation.{verdicts, rows}
-use Rattle.hy_rules.specs.Rolling.{Roll, rolled_upto, next_base, new_roll, roll_on, Stands}
+use Rattle.hy_rules.specs.Rolling.{IsRolled, Roll, rolled_upto, next_base, new_roll, roll_on, Stands}
 use Rattle.hy_pipe.specs.declared.roller.Told.{Told}
 use Rattle.hy_pipe.specs.declared.roller.Told.TheVariants.{Known, NotYet, Past}
 use Rattle.hy_pipe.specs.Telling.{told}
@@ -30,6 +30,7 @@ pub record IsRoller (r : Roll) : Type 0 where
   pub room : rolled_upto r ≤ r.shape.cap
   pub from_start : r.from ≡ 0
   pub flags : HasFlags r
+  pub is_rolled : IsRolled r.shape r.rolled
 
 -- Of a roll that has its flags: the groups of two lists of entries one after another are those of both lists at once. The first roll leaves it with its flags.
 pub record IsOneRoll (r : Roll) (es fs : List EntryKind) : Type 0 where

@@ -30,13 +30,13 @@ pub struct Roller {
 impl Model for Roller {
     ghost use Rattle.std.specs.Prelude.{◌≡◌, ◌*◌, ◌≤◌, length};
     ghost use Rattle.hy_base.specs.Shape.{IsGoodShape, base_groups};
-    ghost use Rattle.hy_rules.specs.Rolling.{Roll, commits_past};
+    ghost use Rattle.hy_rules.specs.Rolling.{Roll, commits_past, IsRolled};
 
     ghost Value = { Roll };
 
     ghost view = { λ r. record { shape = r.shape; from = 0; rolled = record { groups = r.groups; tree = r.tree; base_tree = r.base_tree; kept = r.kept; verdicts = r.verdicts }; commits = commits_past (r.shape.group * base_groups r.shape r.groups) r.verdicts } };
 
-    ghost invariant = { λ r. IsGoodShape r.shape × (r.shape.group * r.groups ≤ r.shape.cap) × (length r.verdicts ≡ r.shape.group * r.groups) };
+    ghost invariant = { λ r. IsGoodShape r.shape × (r.shape.group * r.groups ≤ r.shape.cap) × (length r.verdicts ≡ r.shape.group * r.groups) × IsRolled r.shape (record { groups = r.groups; tree = r.tree; base_tree = r.base_tree; kept = r.kept; verdicts = r.verdicts }) };
 }
 
 /// What a roller tells of a position.

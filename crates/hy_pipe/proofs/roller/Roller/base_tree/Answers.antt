@@ -12,4 +12,5 @@ returns-clause-valid c =
       room = c.self.invariant.1;
       from_start = refl;
       flags = whole_flags c.self.inside.shape (record { groups = c.self.inside.groups; tree = c.self.inside.tree; base_tree = c.self.inside.base_tree; kept = c.self.inside.kept; verdicts = c.self.inside.verdicts }) c.self.invariant.2;
+      is_rolled = c.self.invariant.3;
     })
