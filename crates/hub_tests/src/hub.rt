@@ -304,27 +304,42 @@ fn running(snap: Pos) -> Phase {
 }
 
 #[test]
-fn a_program_is_begun_appended_and_published(rt: HostRuntime) -> Result<(), Fail> {
+fn a_program_is_begun_and_appended(rt: HostRuntime) -> Result<(), Fail> {
     let mut bench = Bench::new(rt.alloc(), SHAPE)?;
     assert!(rt; bench.put(&rt, 1) == Some(Ok(1)));
     let behind = BeginRefusal::Behind { last: 1, board: 0 };
     assert!(rt; bench.begin(&rt, 1).err() == Some(behind));
     assert!(rt; bench.pad(&rt, 1) == Err(PadRefusal::Even));
+    let closed = bench.close();
+    assert!(rt; closed.entries.len() == 1 && closed.marks.len() == 3);
+    assert!(rt; closed.log.close().bytes().len() == 513);
+    Ok(())
+}
+
+#[test]
+fn an_entry_is_published(rt: HostRuntime) -> Result<(), Fail> {
+    let mut bench = Bench::new(rt.alloc(), SHAPE)?;
+    assert!(rt; bench.put(&rt, 1) == Some(Ok(1)));
     assert!(rt; bench.verdict(&rt, 1, 1) == Told::NotYet { at: 0 });
+    assert!(rt; bench.catch_up(&rt, 1) == Some(Ok(())));
+    assert!(rt; bench.verdict(&rt, 1, 1) == Told::Known(Some(Verdict::Commit)));
+    assert!(rt; bench.verdict(&rt, 1, 0) == Told::Past { from: 0 });
+    Ok(())
+}
+
+#[test]
+fn a_board_is_published_once(rt: HostRuntime) -> Result<(), Fail> {
+    let mut bench = Bench::new(rt.alloc(), SHAPE)?;
+    assert!(rt; bench.put(&rt, 1) == Some(Ok(1)));
     assert!(rt; bench.catch_up(&rt, 1) == Some(Ok(())));
     let stale = PublishRefusal::Stale { board: 1 };
     assert!(rt; bench.catch_up(&rt, 1) == Some(Err(stale)));
-    assert!(rt; bench.verdict(&rt, 1, 1) == Told::Known(Some(Verdict::Commit)));
-    assert!(rt; bench.verdict(&rt, 1, 0) == Told::Past { from: 0 });
     let wanted = [
         Event::Begin { client: 1 },
         Event::Append { client: 1 },
         Event::Publish { server: 1, upto: 1 },
     ];
     assert!(rt; bench.has_trace(&rt, &wanted)?);
-    let closed = bench.close();
-    assert!(rt; closed.entries.len() == 1 && closed.marks.len() == 4);
-    assert!(rt; closed.log.close().bytes().len() == 513);
     Ok(())
 }
 
