@@ -90,7 +90,7 @@ fn a_save_writes_one_record(rt: HostRuntime) -> Result<(), Fail> {
 
 // A device that holds the point at 2, and that a save of the point at 4 was stopped on, in its write or sync of this
 // number. It is left by a pattern.
-fn stopped(alloc: Global, call: u64, pattern: u64) -> Result<MemDisk, Fail>
+fn stopped(alloc: Global, call: u64, pattern: u8) -> Result<MemDisk, Fail>
     requires { 1 ≤ call }
 {
     let mut disk = device(alloc, &[])?;
