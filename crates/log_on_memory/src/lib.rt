@@ -10,6 +10,8 @@ ghost use Rattle.hy_base.specs.Shape.{IsGoodShape};
 #[cfg(test)]
 mod damage;
 #[cfg(test)]
+mod failed_gate;
+#[cfg(test)]
 mod tests;
 
 use hy_base::Shape;

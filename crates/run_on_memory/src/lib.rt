@@ -17,6 +17,8 @@ mod failures;
 #[cfg(test)]
 mod logs;
 #[cfg(test)]
+mod rows;
+#[cfg(test)]
 mod tests;
 
 use hy_disk::Tuned;
