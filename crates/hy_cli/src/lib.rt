@@ -2,14 +2,17 @@
 //!
 //! It promises to the crates above: [`parse`] obeys all words that are a line of the definition, and never calls them a
 //! wrong command; a first word that is no command always is one. Other words are refused only where `clap` refuses them
-//! for another cause than memory, and mean what its matches say where it takes them. Numbers are in their ranges.
+//! for another cause than memory, and mean what its matches say where it takes them; words that are a line ask for just
+//! that line ([`line_asks_for_itself`]), and no words for two. Numbers are in their ranges.
 //! Nothing is printed here, a word for help is a wrong command, and the table of commands and options is a definition.
 #![tactic(auto)]
 
 mod command;
+mod laws;
 mod line;
 mod matched;
 mod parsing;
 
+pub use laws::{line_asks_for_itself, words_ask_for_one};
 pub use line::{CliError, Line};
 pub use parsing::parse;

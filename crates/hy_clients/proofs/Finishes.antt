@@ -84,6 +84,7 @@ module _ {D : Type 0} {tells : Bool} {content : D → Content} {faults : ℕ} {l
         shapes = rollers_shape;
         stand = rollers_stand;
         lawful = subst (λ (s : Shape). IsLawful s (state_of list).log) shape_same closed.told.lawful;
+        sound = closed.told.sound;
         log_shape = closed.stored.shape_is ∙ shape_same;
         running = running;
         count = closed.stored.count running ∙ ap length closed.entries_are;

@@ -1,7 +1,7 @@
 -- What is left of a run when its hub is closed.
 use Rattle.std.proofs.Common.{◌≡◌, ◌≢◌, ℕ, ◌+◌, ◌≤◌, Bool, true, false, IsTrue, List, [], ◌∷◌, ◌++◌, length, take, drop, map, Some, None, refl, ap, sym, ◌∙◌, subst, arith, append_assoc, length-append}
 use Rattle.std.specs.Prelude.{All, Option, ◌==◌, ◌/◌}
-use Rattle.std.specs.List.{list_all}
+use Rattle.std.specs.List.{AllByRecursion, list_all}
 use Rattle.std.proofs.lemmas.List.{take_all}
 use Rattle.std.proofs.lemmas.List.Elements.{All-nil, All-cons, All-head, All-tail}
 use Rattle.std.proofs.lemmas.Bool.Decides.{nat_tests}
@@ -25,7 +25,8 @@ use Rattle.hy_hub.specs.declared.mark.Opening.{Opening}
 use Rattle.hy_hub.specs.declared.mark.Mark.{Mark}
 use Rattle.hy_hub.specs.declared.mark.Mark.TheVariants.{Opened}
 use Rattle.hy_hub.specs.Trace.{setting_of, state_of}
-use Rattle.hy_hub.specs.Hub.{IsBoard, IsTold, IsTorn}
+use Rattle.hy_hub.specs.Hub.{IsBoard, IsSound, IsTold, IsTorn}
+use Rattle.hy_hub.proofs.Growing.{sound_more}
 use Rattle.hy_hub.specs.Close.{IsClosed}
 use Rattle.hy_hub.specs.Outset.{IsOutset}
 use Rattle.hy_hist.proofs.Lists.{prefix_self}
@@ -45,6 +46,14 @@ snaps_first s pos (x ∷ xs) ys all = (all.0, snaps_first s (pos + 1) xs ys all.
 
 lawful_first : (s : Shape) (xs ys : List EntryKind) → IsLawful s (xs ++ ys) → IsLawful s xs
 lawful_first s xs ys lawful = record { capacity = let c = lawful.capacity in omega (arith, c, length-append xs ys); snaps = snaps_first s 0 xs ys lawful.snaps }
+
+sound_first : (xs ys : List EntryKind) → AllByRecursion IsSound (xs ++ ys) → AllByRecursion IsSound xs
+sound_first [] ys all = tt
+sound_first (x ∷ xs) ys all = (all.0, sound_first xs ys all.1)
+
+sound_last : (xs : List EntryKind) (last : EntryKind) → AllByRecursion IsSound (xs ++ last ∷ []) → IsSound last
+sound_last [] last all = all.0
+sound_last (x ∷ xs) last all = sound_last xs last all.1
 
 -- the log begins with that of the opening
 pub found_first : (list : List Mark) → IsTold list → IsPrefix (opened_log list) (state_of list).log
@@ -69,6 +78,7 @@ module _ {D : Type 0} {tells : Bool} {content : D → Content} {faults : ℕ} {l
     entries = (state_of list).log;
     begins = found_first list closed.told;
     lawful = subst (λ (s : Shape). IsLawful s (state_of list).log) (sym closed.stored.shape_is ∙ (sym shape_of ∙ same)) closed.told.lawful;
+    sound = closed.told.sound;
     log_shape = sym shape_of ∙ same;
     bodies = λ t. closed.stored.whole t (runs t) ∙ ap (map spelling) closed.entries_are;
     torn = λ t some. absurd (some (runs t));
@@ -85,9 +95,10 @@ module _ {D : Type 0} {tells : Bool} {content : D → Content} {faults : ℕ} {l
         entries = (state_of list).log ++ torn.stored;
         begins = (found.0 ++ torn.stored, sym (append_assoc (opened_log list) found.0 torn.stored) ∙ ap (λ (l : List EntryKind). l ++ torn.stored) found.1);
         lawful = lawful_first shape ((state_of list).log ++ torn.stored) (torn.last ∷ []) lawful;
+        sound = sound_more (state_of list).log torn.stored closed.told.sound (sound_first torn.stored (torn.last ∷ []) torn.sound);
         log_shape = here;
         bodies = λ t. torn.bodies ∙ ap (λ (l : List EntryKind). map spelling (l ++ torn.stored)) mine;
-        torn = λ t some. (torn.last, lawful, λ image is. subst (λ (s : Shape). HoldsAtMost s log.bodies (spelling torn.last) image) here (torn.left image is));
+        torn = λ t some. (torn.last, lawful, sound_last torn.stored torn.last torn.sound, λ image is. subst (λ (s : Shape). HoldsAtMost s log.bodies (spelling torn.last) image) here (torn.left image is));
       }
 
   by_stop : (shape : Shape) → (setting_of list).shape ≡ shape → (told : Bool) → tells ≡ told → (stop : Option ℕ) → log.stopped ≡ stop → IsCutShort tells content shape (opened_log list) log
@@ -127,6 +138,7 @@ outset_cut tells content log back entries start servers homes shape outset same 
   entries = entries;
   begins = prefix_self entries;
   lawful = subst (λ (s : Shape). IsLawful s entries) same outset.lawful;
+  sound = outset.sound;
   log_shape = here ∙ (outset.shape ∙ same);
   bodies = λ t. bodies t ∙ outset.bodies t;
   torn = λ t some. absurd (some running);

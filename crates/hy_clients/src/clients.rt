@@ -60,6 +60,7 @@ pub struct Broken<D: Disk> {
 fn break_off<D: Disk>(log: PageLog<D>) -> Broken<D>
     ensures log { result.log ≡ log }
     ensures cause { result.cause ≡ Cause.Device → log.stopped ≢ None }
+    ensures memory { result.cause ≡ Cause.Memory → log.stopped ≡ None }
 {
     let cause = match log.stopped() {
         Some(_) => Cause::Device,
@@ -85,6 +86,7 @@ fn finished<D: Disk>(
     ensures run { IfOk result (λ run. (run.log ≡ closed.log) × IsFinished D.tells script.now (opened_log closed.marks.items) run.events run.replies run.boards run.log) }
     ensures log { IfErr result (λ broken. broken.log ≡ closed.log) }
     ensures cause { IfErr result (λ broken. broken.cause ≡ Cause.Device → closed.log.stopped ≢ None) }
+    ensures memory { IfErr result (λ broken. broken.cause ≡ Cause.Memory → closed.log.stopped ≡ None) }
 {
     served_lists_are_runs();
     replies_are_told();
@@ -151,6 +153,7 @@ fn run_on<D: Disk + Send, R: Threads + Wait + Sync, G: Gate + Sync>(
     ensures run { IfOk result (λ run. IsFinished D.tells script.now (opened_log pass.seen) run.events run.replies run.boards run.log) }
     ensures cut { IfErr result (λ broken. IsCutShort D.tells D.content script.now.shape (opened_log pass.seen) broken.log) }
     ensures cause { IfErr result (λ broken. broken.cause ≡ Cause.Device → Rose (opened_faults pass.seen) (D.faults_of broken.log.disk)) }
+    ensures memory { IfErr result (λ broken. broken.cause ≡ Cause.Memory → broken.log.stopped ≡ None) }
     ensures stopped { IfErr result (λ broken. broken.log.stopped ≢ None → Rose (opened_faults pass.seen) (D.faults_of broken.log.disk)) }
     ensures later { IfOk result (λ run. opened_faults pass.seen ≤ D.faults_of run.log.disk) }
     ensures later_cut { IfErr result (λ broken. opened_faults pass.seen ≤ D.faults_of broken.log.disk) }
@@ -186,6 +189,7 @@ pub fn run_clients<D: Disk + Send, R: Threads + Wait + Sync, G: Gate + Sync>(
     ensures run { IfOk result (λ run. IsFinished D.tells script.now entries.items run.events run.replies run.boards run.log) }
     ensures cut { IfErr result (λ broken. IsCutShort D.tells D.content script.now.shape entries.items broken.log) }
     ensures cause { IfErr result (λ broken. broken.cause ≡ Cause.Device → Rose (D.faults_of log.disk) (D.faults_of broken.log.disk)) }
+    ensures memory { IfErr result (λ broken. broken.cause ≡ Cause.Memory → broken.log.stopped ≡ None) }
     ensures stopped { IfErr result (λ broken. broken.log.stopped ≢ None → Rose (D.faults_of log.disk) (D.faults_of broken.log.disk)) }
     ensures later { IfOk result (λ run. D.faults_of log.disk ≤ D.faults_of run.log.disk) }
     ensures later_cut { IfErr result (λ broken. D.faults_of log.disk ≤ D.faults_of broken.log.disk) }

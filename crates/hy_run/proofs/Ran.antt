@@ -1,5 +1,5 @@
 -- What comes of running clients on a log.
-use Rattle.std.proofs.Common.{◌≡◌, ◌≢◌, ℕ, ◌+◌, ◌≤◌, Bool, true, IsTrue, List, [], ◌∷◌, ◌++◌, length, map, take, refl, sym, ◌∙◌, ap, subst, inl, inr, arith, append-nil}
+use Rattle.std.proofs.Common.{◌≡◌, ◌≢◌, ℕ, ◌+◌, ◌≤◌, Bool, true, IsTrue, List, [], ◌∷◌, ◌++◌, length, map, take, refl, sym, ◌∙◌, ap, subst, inl, inr, ⊎_elim, false, arith, append-nil}
 use Rattle.std.specs.Prelude.{◌⊎◌, Option, Some, None, Result, Ok, Err, IfErr}
 use Rattle.std.specs.List.{All, AllByRecursion}
 use Rattle.std.proofs.lemmas.List.Elements.{All-head, All-map, All-tail, All-weaker}
@@ -33,8 +33,10 @@ use Rattle.hy_hub.specs.Outset.{IsOutset}
 use Rattle.hy_check.specs.Listing.{IsSound}
 use Rattle.hy_clients.specs.Finished.{IsCutShort, IsFinished}
 use Rattle.hy_run.proofs.Growing.{run_grows}
-use Rattle.hy_run.specs.Running.{TellsClients}
-use Rattle.hy_run.specs.RunningParts.{HoldsMore, IsRanText, LeavesAtMost, servers_at, told_text}
+use Rattle.hy_run.specs.Running.{HoldsAcked, HoldsEntries, TellsClients}
+use Rattle.hy_run.specs.RunningParts.{IsRanText, servers_at, told_text}
+use Rattle.hy_run.proofs.Leaving.{holds_entries, holds_one_more}
+use Rattle.hy_codec.specs.Laws.{BodiesAreRead}
 
 -- ---- what the clients start from
 
@@ -93,50 +95,57 @@ module _ {D : Type 0} {tells : Bool} {script : Workload} {found : List EntryKind
         });
       }
 
+  -- all of it is on the device
+  all_held : BodiesAreRead → IsTrue tells → (now : Content) → ((image : List ℕ) → Image now image → Holds log.shape log.bodies image) → (image : List ℕ) → Image now image → HoldsEntries script.shape f.end.log image
+  all_held law knows now held image left =
+      holds_entries law script.shape f.end.log image f.lawful f.sound (subst (λ b. Holds script.shape b image) (f.bodies knows) (subst (λ s. Holds s log.bodies image) f.log_shape (held image left)))
+
   -- the text of a run
-  pub ran_text : (bodies : List (List ℕ)) (now : Content) (acked : ℕ) (text : Text) → (IsTrue tells → entries_past script.shape 0 bodies ≡ Ok found) → acked ≡ length log.bodies → text ≡ told_text events replies boards
+  pub ran_text : BodiesAreRead → (bodies : List (List ℕ)) (now : Content) (acked : ℕ) (text : Text) → (IsTrue tells → entries_past script.shape 0 bodies ≡ Ok found) → acked ≡ length log.bodies → text ≡ told_text events replies boards
       → (IsTrue tells → (image : List ℕ) → Image now image → Holds log.shape log.bodies image) → IsRanText tells script bodies now acked text
-  ran_text bodies now acked text read counts told held = record {
+  ran_text law bodies now acked text read counts told held = record {
     found = found;
     was_found = read;
     events = events;
     end = f.end;
     results = record { replies = replies; servers = servers_at boards };
     is = told_clients;
-    held = λ knows image left. subst (λ b. Holds script.shape b image) (f.bodies knows) (subst (λ s. Holds s log.bodies image) f.log_shape (held knows image left));
+    held = λ knows. all_held law knows now (held knows);
     counted = counts ∙ f.count;
     text_is = told;
   }
 
   -- what it leaves
-  pub ran_holds : (old : List (List ℕ)) (now : Content) (faults faults_now acked : ℕ) → IsTrue tells → old ≡ map spelling found → acked ≡ length log.bodies → ((image : List ℕ) → Image now image → Holds log.shape log.bodies image) → HoldsMore script.shape old now faults faults_now acked
-  ran_holds old now faults faults_now acked knows spelled counts held =
-      let grows = run_grows script events (opening_of script found) f.end f.leads in
-      let exact : (image : List ℕ) → Image now image → Holds script.shape log.bodies image = λ image left. subst (λ s. Holds s log.bodies image) f.log_shape (held image left) in
-      record {
-        bodies = log.bodies;
-        begins = (map spelling grows.0, ap (λ l. l ++ map spelling grows.0) spelled ∙ (sym (map-append spelling found grows.0) ∙ (ap (map spelling) grows.1 ∙ sym (f.bodies knows))));
-        counted = counts;
-        last = [];
-        left = λ image left. inl (exact image left);
-        exact = λ never. exact;
-      }
+  pub ran_holds : BodiesAreRead → (now : Content) (faults faults_now : ℕ) (cut_off : Bool) (acked : ℕ) → IsTrue tells → acked ≡ length log.bodies → ((image : List ℕ) → Image now image → Holds log.shape log.bodies image) → HoldsAcked script.shape found now faults faults_now cut_off acked
+  ran_holds law now faults faults_now cut_off acked knows counts held = record {
+    entries = f.end.log;
+    begins = run_grows script events (opening_of script found) f.end f.leads;
+    lawful = f.lawful;
+    counted = counts ∙ f.count;
+    exact = λ whole. all_held law knows now held;
+    torn = inl (all_held law knows now held);
+  }
 
 -- what a run leaves that was cut short
-pub cut_holds : {D : Type 0} {tells : Bool} {content : D → Content} {shape : Shape} {found : List EntryKind} {log : View D} → IsCutShort tells content shape found log → (old : List (List ℕ)) (now : Content) (faults faults_now acked : ℕ) → IsTrue tells → old ≡ map spelling found
-    → acked ≡ length log.bodies → LeavesAtMost now log → (log.stopped ≡ None → (image : List ℕ) → Image now image → Holds log.shape log.bodies image) → (log.stopped ≢ None → Rose faults faults_now) → HoldsMore shape old now faults faults_now acked
-cut_holds {log = log} c old now faults faults_now acked knows spelled counts left exact rose = record {
-  bodies = log.bodies;
-  begins = (map spelling c.begins.0, ap (λ l. l ++ map spelling c.begins.0) spelled ∙ (sym (map-append spelling _ c.begins.0) ∙ (ap (map spelling) c.begins.1 ∙ sym (c.bodies knows))));
-  counted = counts;
-  last = left.0;
-  left = λ image is. subst (λ s. HoldsAtMost s log.bodies left.0 image) c.log_shape (left.1 image is);
-  exact = λ never image is. subst (λ s. Holds s log.bodies image) c.log_shape (exact (runs never) image is);
-}
-  where
-    runs : (Rose faults faults_now → ⊥) → log.stopped ≡ None
-    runs never = by log.stopped refl
-      where
-        by : (o : Option ℕ) → log.stopped ≡ o → log.stopped ≡ None
-        by None is = is
-        by (Some at) is = absurd (never (rose (λ none. absurd (cc (sym is ∙ none)))))
+module _ {D : Type 0} {tells : Bool} {content : D → Content} {shape : Shape} {found : List EntryKind} {log : View D} (law : BodiesAreRead) (c : IsCutShort tells content shape found log) (now : Content) (faults faults_now acked : ℕ) (knows : IsTrue tells) (same : now ≡ content log.disk) (counts : acked ≡ length log.bodies) where
+  counted : acked ≡ length c.entries
+  counted = counts ∙ (ap length (c.bodies knows) ∙ length-map c.entries spelling)
+
+  pub cut_holds : (cut_off : Bool) → cut_off ≡ true → (log.stopped ≡ None → (image : List ℕ) → Image now image → Holds log.shape log.bodies image) → (log.stopped ≢ None → Rose faults faults_now) → HoldsAcked shape found now faults faults_now cut_off acked
+  cut_holds cut_off early exact rose = by log.stopped refl
+    where
+      by : (o : Option ℕ) → log.stopped ≡ o → HoldsAcked shape found now faults faults_now cut_off acked
+      by None is =
+          let all : (image : List ℕ) → Image now image → HoldsEntries shape c.entries image = λ image left. holds_entries law shape c.entries image c.lawful c.sound (subst (λ b. Holds shape b image) (c.bodies knows) (subst (λ s. Holds s log.bodies image) c.log_shape (exact is image left))) in
+          record { entries = c.entries; begins = c.begins; lawful = c.lawful; counted = counted; exact = λ whole. all; torn = inl all }
+      by (Some at) is =
+          let stopped : log.stopped ≢ None = λ none. absurd (let wrong : None ≡ Some at = sym none ∙ is in cc wrong) in
+          let torn = c.torn knows stopped in
+          record {
+            entries = c.entries;
+            begins = c.begins;
+            lawful = c.lawful;
+            counted = counted;
+            exact = λ whole. absurd (⊎_elim (λ no. let wrong : true ≡ false = sym early ∙ no in cc wrong) (λ never. never (rose stopped)) whole);
+            torn = inr (torn.0, torn.1, λ image left. holds_one_more law shape c.entries torn.0 log.bodies image (c.bodies knows) c.lawful c.sound torn.1 torn.2 (torn.3 image (subst (λ k. Image k image) same left)));
+          }

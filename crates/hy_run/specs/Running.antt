@@ -1,5 +1,5 @@
 -- What `run` writes, why it writes nothing, and how it leaves the log.
-use Rattle.std.specs.Prelude.{◌≡◌, ◌⊎◌, ℕ, ◌≤◌, Bool, true, false, IsTrue, List, [], ◌++◌, length, map, Option, Some, None, Result, Ok, Err, ⊤}
+use Rattle.std.specs.Prelude.{◌≡◌, ◌⊎◌, ℕ, ◌≤◌, Bool, true, false, IsTrue, List, [], ◌∷◌, ◌++◌, length, map, Option, Some, None, Result, Ok, Err}
 use Rattle.std.specs.List.{list_any}
 use mathlib.Core.List.{IsPrefix}
 use Rattle.hy_base.specs.declared.layout.Shape.{Shape}
@@ -7,6 +7,7 @@ use Rattle.hy_base.specs.declared.record.EntryKind.{EntryKind}
 use Rattle.hy_base.specs.declared.report.Results.{Results}
 use Rattle.hy_base.specs.declared.workload.Event.{Event}
 use Rattle.hy_base.specs.Faults.{Rose}
+use Rattle.hy_base.specs.Log.{IsLawful}
 use Rattle.hy_base.specs.Script.{Workload, IsScript}
 use Rattle.hy_base.specs.Spelling.{Text}
 use Rattle.hy_rules.specs.declared.damage.BadEntry.{BadEntry}
@@ -25,13 +26,12 @@ use Rattle.hy_log.specs.declared.error.OpenError.{OpenError}
 use Rattle.hy_log.specs.declared.error.OpenError.TheVariants as opening
 use Rattle.hy_log.specs.Kept.{IsKept}
 use Rattle.hy_log.specs.Opening.{outcome}
-use Rattle.hy_log.specs.View.{Holds, HoldsAtMost}
+use Rattle.hy_log.specs.View.{Holds}
 use Rattle.hy_hub.specs.Trace.{is_stop}
-use Rattle.hy_script.specs.Reading.{refused}
 use Rattle.hy_script.specs.declared.why.Why.{Why}
 use Rattle.hy_input.specs.Source.{read_input}
 use Rattle.hy_input.specs.declared.input.Input.{Input}
-use Rattle.hy_run.specs.Output.{AreOf}
+use Rattle.hy_run.specs.Output.{AreOf, IsFault, IsRefusedBy}
 use Rattle.hy_run.specs.declared.status.Status.{Status}
 use Rattle.hy_run.specs.declared.status.Status.TheVariants as status
 use Rattle.hy_run.specs.declared.status.Which.TheVariants as which
@@ -56,8 +56,21 @@ opening_refused shape (Err (opening.BadPage bad)) = Some (status.Log (Page bad.p
 opening_refused shape (Err (opening.Config field log asked)) = Some (status.Config field log asked)
 opening_refused shape (Err opening.Unborn) = None
 
-abbrev pub log_refused : Shape → List ℕ → Option Status
-log_refused shape seen = opening_refused shape (outcome (Some shape) seen)
+-- so that a script of this shape has no run on a device with these bytes
+abbrev pub refused_log : Shape → List ℕ → Option Status
+refused_log shape seen = opening_refused shape (outcome (Some shape) seen)
+
+-- how many entries a log has that is opened
+abbrev pub opened_count : Result Held OpenError → ℕ
+opened_count (Ok held) = length held.bodies
+opened_count (Err error) = 0
+
+-- ---- what a device holds
+
+-- a device with these bytes has a log of this shape, whose bodies are the spellings of these entries, and it is recovered as these
+pub record HoldsEntries (shape : Shape) (entries : List EntryKind) (image : List ℕ) : Type 0 where
+  pub spelled : Holds shape (map spelling entries) image
+  pub recovers : recovered image ≡ Ok (record { shape = Some shape; entries = entries })
 
 -- ---- the run
 
@@ -77,7 +90,7 @@ pub record IsScriptRun (script : Workload) (tells : Bool) (seen : List ℕ) (now
   pub end : State
   pub results : Results
   pub is : TellsClients script found events end results
-  pub held : IsTrue tells → (image : List ℕ) → Image now image → Holds script.shape (map spelling end.log) image
+  pub held : IsTrue tells → (image : List ℕ) → Image now image → HoldsEntries script.shape end.log image
   pub counted : acked ≡ length end.log
   pub text_is : text ≡ trace_text events ++ report_text results
 
@@ -93,10 +106,8 @@ pub record IsRunText (told : Option Text) (tells : Bool) (seen : List ℕ) (now 
 -- ---- why there is none
 
 -- a source has a line that is refused, for this cause
-pub record IsScriptRefused (told : Option Text) (line : ℕ) (why : Why) : Type 0 where
-  pub bytes : Text
-  pub are_of : AreOf told bytes
-  pub is : read_input bytes false ≡ refused line why
+abbrev pub IsScriptRefused : Option Text → ℕ → Why → Type 0
+IsScriptRefused told line why = IsRefusedBy (λ bytes. read_input bytes false) told line why
 
 -- a source asks for a script
 pub record IsAsked (told : Option Text) : Type 0 where
@@ -105,24 +116,18 @@ pub record IsAsked (told : Option Text) : Type 0 where
   pub input : Input
   pub asked : read_input bytes false ≡ Ok input
 
--- the log can't be run on by the script that a source asks for
-pub record IsLogRefused (told : Option Text) (tells : Bool) (seen : List ℕ) (why : Status) : Type 0 where
+-- The log can't be run on by the script that a source asks for. All its entries are acknowledged, if it could be opened.
+pub record IsLogRefused (told : Option Text) (tells : Bool) (seen : List ℕ) (acked : ℕ) (why : Status) : Type 0 where
   pub bytes : Text
   pub are_of : AreOf told bytes
   pub input : Input
   pub asked : read_input bytes false ≡ Ok input
-  pub refuses : IsTrue tells → log_refused input.script.shape seen ≡ Some why
+  pub refuses : IsTrue tells → refused_log input.script.shape seen ≡ Some why
+  pub counted : IsTrue tells → acked ≡ opened_count (outcome (Some input.script.shape) seen)
 
-abbrev pub IsRunFault : Option Text → ℕ → ℕ → Bool → List ℕ → ℕ → ℕ → Status → Type 0
-IsRunFault told faults faults_now tells seen device device_now status.Fine = ⊥
-IsRunFault told faults faults_now tells seen device device_now status.Usage = ⊥
-IsRunFault told faults faults_now tells seen device device_now (status.Script line why) = IsScriptRefused told line why
-IsRunFault told faults faults_now tells seen device device_now status.Source = Rose faults faults_now
-IsRunFault told faults faults_now tells seen device device_now status.Sink = ⊥
-IsRunFault told faults faults_now tells seen device device_now (status.Device one) = (one ≡ which.Log) × Rose device device_now × IsAsked told
-IsRunFault told faults faults_now tells seen device device_now (status.Log place why) = IsLogRefused told tells seen (status.Log place why)
-IsRunFault told faults faults_now tells seen device device_now (status.Config field log asked) = IsLogRefused told tells seen (status.Config field log asked)
-IsRunFault told faults faults_now tells seen device device_now status.Memory = ⊤
+abbrev pub IsRunFault : Option Text → ℕ → ℕ → Bool → List ℕ → ℕ → ℕ → ℕ → Status → Type 0
+IsRunFault told faults faults_now tells seen device device_now acked status =
+    IsFault (IsScriptRefused told) (IsLogRefused told tells seen acked) (Rose faults faults_now) (λ one. ((one ≡ which.Log) × IsAsked told) × Rose device device_now) status
 
 -- the source asks for a script, and the log can be run on
 abbrev pub CanBeRun : Option Text → Bool → List ℕ → Type 0
@@ -130,19 +135,34 @@ CanBeRun told tells seen = (bytes : Text) × (input : Input) × (told ≡ Some b
 
 -- ---- what is left of the log
 
--- The log was opened: it had these bodies, and has these acknowledged ones now, which begin with them. A crash now leaves just these, unless the device failed: then it leaves these, or these and one more.
-pub record HoldsAcked (seen : List ℕ) (now : Content) (faults faults_now : ℕ) (acked : ℕ) : Type 0 where
-  pub shape : Shape
+-- a source asks for a log of this shape
+pub record AsksForShape (told : Option Text) (shape : Shape) : Type 0 where
+  pub bytes : Text
+  pub are_of : AreOf told bytes
+  pub input : Input
+  pub asked : read_input bytes false ≡ Ok input
+  pub same : shape ≡ input.script.shape
+
+-- The log was opened, and nothing was appended: a crash leaves the bodies that were found, and these are acknowledged.
+pub record HoldsFound (shape : Shape) (seen : List ℕ) (now : Content) (acked : ℕ) : Type 0 where
   pub found : List (List ℕ)
   pub was_found : (log_in seen ≡ Ok (record { shape = Some shape; bodies = found })) ⊎ ((is_unborn seen ≡ true) × (found ≡ []))
-  pub bodies : List (List ℕ)
-  pub begins : IsPrefix found bodies
-  pub counted : acked ≡ length bodies
-  pub last : List ℕ
-  pub left : (image : List ℕ) → Image now image → HoldsAtMost shape bodies last image
-  pub exact : (Rose faults faults_now → ⊥) → (image : List ℕ) → Image now image → Holds shape bodies image
+  pub counted : acked ≡ length found
+  pub images : (image : List ℕ) → Image now image → Holds shape found image
 
--- How the device is left. Where the log was not opened, a crash leaves what it held, or that and the one record that stood whole behind its torn frontier.
-pub record IsRunOn {D : Type 0} (tells : Bool) (content : D → Content) (moment : D → ℕ) (left_since : D → ℕ → List ℕ → Type 0) (faults_of : D → ℕ) (old new : D) (acked : ℕ) : Type 0 where
+-- Entries are acknowledged that begin with those found, and are lawful. A crash leaves just these, unless the device failed: then it leaves these, or these and the entry whose append failed, which is lawful behind them.
+pub record HoldsAcked (shape : Shape) (found : List EntryKind) (now : Content) (faults faults_now : ℕ) (cut_off : Bool) (acked : ℕ) : Type 0 where
+  pub entries : List EntryKind
+  pub begins : IsPrefix found entries
+  pub lawful : IsLawful shape entries
+  pub counted : acked ≡ length entries
+  pub exact : (cut_off ≡ false) ⊎ (Rose faults faults_now → ⊥) → (image : List ℕ) → Image now image → HoldsEntries shape entries image
+  pub torn : ((image : List ℕ) → Image now image → HoldsEntries shape entries image)
+      ⊎ ((last : EntryKind) × IsLawful shape (entries ++ last ∷ []) × ((image : List ℕ) → Image now image → HoldsEntries shape entries image ⊎ HoldsEntries shape (entries ++ last ∷ []) image))
+
+-- How the device is left. Where the log was not opened, a crash leaves what it held, or that and the one record that stood whole behind its torn frontier. A log that is opened has the shape that the source asks for, also where it is born now.
+pub record IsRunOn {D : Type 0} (told : Option Text) (tells : Bool) (content : D → Content) (moment : D → ℕ) (left_since : D → ℕ → List ℕ → Type 0) (faults_of : D → ℕ) (old new : D) (cut_off : Bool) (acked : ℕ) : Type 0 where
   pub later : faults_of old ≤ faults_of new
-  pub left : IsTrue tells → HoldsAcked (content old).seen (content new) (faults_of old) (faults_of new) acked ⊎ ((acked ≡ 0) × (content old ≡ settled (content old).seen → LeavesOnly moment left_since old new (IsKept (content old).seen)))
+  pub left : IsTrue tells → ((acked ≡ 0) × (content old ≡ settled (content old).seen → LeavesOnly moment left_since old new (IsKept (content old).seen)))
+      ⊎ ((shape : Shape) × AsksForShape told shape × (HoldsFound shape (content old).seen (content new) acked
+      ⊎ ((found : List EntryKind) × HasFound (content old).seen shape found × HoldsAcked shape found (content new) (faults_of old) (faults_of new) cut_off acked)))

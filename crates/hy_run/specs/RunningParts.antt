@@ -1,6 +1,5 @@
 -- What the parts of `run` hand to one another.
-use Rattle.std.specs.Prelude.{◌≡◌, ◌≢◌, ◌<◌, ℕ, Bool, false, IsTrue, List, ◌++◌, length, map, Option, Some, Ok, IfSome, ⊤}
-use mathlib.Core.List.{IsPrefix}
+use Rattle.std.specs.Prelude.{◌≡◌, ◌≢◌, ◌⊎◌, ◌<◌, ◌≤◌, ℕ, Bool, false, IsTrue, List, ◌++◌, length, map, Option, Some, Ok, IfSome}
 use Rattle.hy_base.specs.declared.layout.Shape.{Shape}
 use Rattle.hy_base.specs.declared.record.EntryKind.{EntryKind}
 use Rattle.hy_base.specs.declared.report.Reply.{Reply}
@@ -10,21 +9,24 @@ use Rattle.hy_base.specs.declared.workload.Event.{Event}
 use Rattle.hy_base.specs.Faults.{Rose}
 use Rattle.hy_base.specs.Script.{Workload, IsScript}
 use Rattle.hy_base.specs.Spelling.{Text}
-use Rattle.hy_rules.specs.EntryFormat.{entries_past, spelling}
+use Rattle.hy_rules.specs.EntryFormat.{entries_past}
 use Rattle.hy_rules.specs.declared.damage.LogPlace.TheVariants.{Page}
 use Rattle.hy_rules.specs.History.{live_rows}
 use Rattle.hy_rules.specs.Moves.{State}
 use Rattle.hy_rules.specs.Rolling.{Roll, rolled_upto}
 use Rattle.hy_rules.specs.Texts.{trace_text, report_text}
-use Rattle.hy_disk.specs.Content.{Content, Image}
+use Rattle.hy_disk.specs.Content.{Content, Image, settled}
 use Rattle.hy_log.specs.declared.error.OpenError.{OpenError}
 use Rattle.hy_log.specs.declared.error.OpenError.TheVariants as opening
-use Rattle.hy_log.specs.View.{Holds, HoldsAtMost, View}
+use Rattle.hy_disk.specs.Moments.{LeavesOnly}
+use Rattle.hy_log.specs.Kept.{IsKept}
+use Rattle.hy_log.specs.View.{Holds}
 use Rattle.hy_script.specs.declared.why.Why.TheVariants.{Long}
 use Rattle.hy_input.specs.Source.{read_input}
 use Rattle.hy_input.specs.declared.input.Input.{Input}
-use Rattle.hy_run.specs.Output.{AreOf}
-use Rattle.hy_run.specs.Running.{IsScriptRefused, TellsClients, entries_refused, log_refused}
+use Rattle.hy_log.specs.Opening.{outcome}
+use Rattle.hy_run.specs.Output.{AreOf, IsFault}
+use Rattle.hy_run.specs.Running.{HasFound, HoldsAcked, HoldsEntries, HoldsFound, IsScriptRefused, TellsClients, entries_refused, opened_count, refused_log}
 use Rattle.hy_run.specs.declared.status.Status.{Status}
 use Rattle.hy_run.specs.declared.status.Status.TheVariants as status
 use Rattle.hy_run.specs.declared.status.Which.TheVariants as which
@@ -53,45 +55,23 @@ pub record IsRanText (tells : Bool) (script : Workload) (bodies : List (List ℕ
   pub end : State
   pub results : Results
   pub is : TellsClients script found events end results
-  pub held : IsTrue tells → (image : List ℕ) → Image now image → Holds script.shape (map spelling end.log) image
+  pub held : IsTrue tells → (image : List ℕ) → Image now image → HoldsEntries script.shape end.log image
   pub counted : acked ≡ length end.log
   pub text_is : text ≡ trace_text events ++ report_text results
 
 -- why there is none, by the shape that is asked for and the shape and the bodies of the log
-abbrev pub IsRanFault : Bool → Shape → Shape → List (List ℕ) → ℕ → ℕ → Status → Type 0
-IsRanFault tells asked shape bodies faults faults_now status.Fine = ⊥
-IsRanFault tells asked shape bodies faults faults_now status.Usage = ⊥
-IsRanFault tells asked shape bodies faults faults_now (status.Script line why) = ⊥
-IsRanFault tells asked shape bodies faults faults_now status.Source = ⊥
-IsRanFault tells asked shape bodies faults faults_now status.Sink = ⊥
-IsRanFault tells asked shape bodies faults faults_now (status.Device one) = (one ≡ which.Log) × Rose faults faults_now
-IsRanFault tells asked shape bodies faults faults_now (status.Log place why) = IsTrue tells → entries_refused (entries_past shape 0 bodies) ≡ Some (status.Log place why)
-IsRanFault tells asked shape bodies faults faults_now (status.Config field log other) = shape ≢ asked
-IsRanFault tells asked shape bodies faults faults_now status.Memory = ⊤
+abbrev pub IsRanFault : Bool → Shape → Shape → List (List ℕ) → ℕ → ℕ → ℕ → Status → Type 0
+IsRanFault tells asked shape bodies faults faults_now acked status =
+    IsFault (λ line why. ⊥) (λ s. ((IsTrue tells → entries_refused (entries_past shape 0 bodies) ≡ Some s) × (acked ≡ length bodies)) ⊎ (shape ≢ asked)) ⊥ (λ one. (one ≡ which.Log) × Rose faults faults_now) status
 
 -- why a script has no run on a device with these bytes
-abbrev pub IsScriptFault : Bool → Shape → List ℕ → ℕ → ℕ → Status → Type 0
-IsScriptFault tells asked seen faults faults_now status.Fine = ⊥
-IsScriptFault tells asked seen faults faults_now status.Usage = ⊥
-IsScriptFault tells asked seen faults faults_now (status.Script line why) = ⊥
-IsScriptFault tells asked seen faults faults_now status.Source = ⊥
-IsScriptFault tells asked seen faults faults_now status.Sink = ⊥
-IsScriptFault tells asked seen faults faults_now (status.Device one) = (one ≡ which.Log) × Rose faults faults_now
-IsScriptFault tells asked seen faults faults_now (status.Log place why) = IsTrue tells → log_refused asked seen ≡ Some (status.Log place why)
-IsScriptFault tells asked seen faults faults_now (status.Config field log other) = IsTrue tells → log_refused asked seen ≡ Some (status.Config field log other)
-IsScriptFault tells asked seen faults faults_now status.Memory = ⊤
+abbrev pub IsScriptFault : Bool → Shape → List ℕ → ℕ → ℕ → ℕ → Status → Type 0
+IsScriptFault tells asked seen faults faults_now acked status =
+    IsFault (λ line why. ⊥) (λ s. IsTrue tells → (refused_log asked seen ≡ Some s) × (acked ≡ opened_count (outcome (Some asked) seen))) ⊥ (λ one. (one ≡ which.Log) × Rose faults faults_now) status
 
 -- why a source was not read whole: it is too long, it failed, or memory ran out
 abbrev pub IsBytesFault : Option Text → ℕ → ℕ → Status → Type 0
-IsBytesFault told faults faults_now status.Fine = ⊥
-IsBytesFault told faults faults_now status.Usage = ⊥
-IsBytesFault told faults faults_now (status.Script line why) = (line ≡ 0) × (why ≡ Long) × IfSome told (λ left. 16777216 < length left)
-IsBytesFault told faults faults_now status.Source = Rose faults faults_now
-IsBytesFault told faults faults_now status.Sink = ⊥
-IsBytesFault told faults faults_now (status.Device one) = ⊥
-IsBytesFault told faults faults_now (status.Log place why) = ⊥
-IsBytesFault told faults faults_now (status.Config field log other) = ⊥
-IsBytesFault told faults faults_now status.Memory = ⊤
+IsBytesFault told faults faults_now status = IsFault (λ line why. (line ≡ 0) × (why ≡ Long) × IfSome told (λ left. 16777216 < length left)) (λ s. ⊥) (Rose faults faults_now) (λ one. ⊥) status
 
 -- the script that a source asks for
 pub record IsScriptOf (told : Option Text) (script : Workload) : Type 0 where
@@ -104,37 +84,15 @@ pub record IsScriptOf (told : Option Text) (script : Workload) : Type 0 where
 
 -- and why there is none
 abbrev pub IsReadingFault : Option Text → ℕ → ℕ → Status → Type 0
-IsReadingFault told faults faults_now status.Fine = ⊥
-IsReadingFault told faults faults_now status.Usage = ⊥
-IsReadingFault told faults faults_now (status.Script line why) = IsScriptRefused told line why
-IsReadingFault told faults faults_now status.Source = Rose faults faults_now
-IsReadingFault told faults faults_now status.Sink = ⊥
-IsReadingFault told faults faults_now (status.Device one) = ⊥
-IsReadingFault told faults faults_now (status.Log place why) = ⊥
-IsReadingFault told faults faults_now (status.Config field log other) = ⊥
-IsReadingFault told faults faults_now status.Memory = ⊤
+IsReadingFault told faults faults_now status = IsFault (IsScriptRefused told) (λ s. ⊥) (Rose faults faults_now) (λ one. ⊥) status
 
--- the answer for another shape
-abbrev pub IsConfig : Status → Type 0
-IsConfig status.Fine = ⊥
-IsConfig status.Usage = ⊥
-IsConfig (status.Script line why) = ⊥
-IsConfig status.Source = ⊥
-IsConfig status.Sink = ⊥
-IsConfig (status.Device one) = ⊥
-IsConfig (status.Log place why) = ⊥
-IsConfig (status.Config field log asked) = ⊤
-IsConfig status.Memory = ⊥
+-- What is left of a log of these bodies that was opened: nothing was appended, or what was found is lawful and more was.
+abbrev pub IsLeftOf : Shape → List (List ℕ) → Content → ℕ → ℕ → Bool → ℕ → Type 0
+IsLeftOf shape bodies now faults faults_now cut_off acked = ((acked ≡ length bodies) × ((image : List ℕ) → Image now image → Holds shape bodies image))
+    ⊎ ((found : List EntryKind) × (entries_past shape 0 bodies ≡ Ok found) × HoldsAcked shape found now faults faults_now cut_off acked)
 
--- A log had these bodies, and has these acknowledged ones now, which begin with them. A crash leaves just these, unless the device failed: then it leaves these, or these and one more.
-pub record HoldsMore (shape : Shape) (found : List (List ℕ)) (now : Content) (faults faults_now : ℕ) (acked : ℕ) : Type 0 where
-  pub bodies : List (List ℕ)
-  pub begins : IsPrefix found bodies
-  pub counted : acked ≡ length bodies
-  pub last : List ℕ
-  pub left : (image : List ℕ) → Image now image → HoldsAtMost shape bodies last image
-  pub exact : (Rose faults faults_now → ⊥) → (image : List ℕ) → Image now image → Holds shape bodies image
-
--- a crash leaves a log's bodies, or these and one more
-abbrev pub LeavesAtMost : {D : Type 0} → Content → View D → Type 0
-LeavesAtMost now log = (last : List ℕ) × ((image : List ℕ) → Image now image → HoldsAtMost log.shape log.bodies last image)
+-- How a run leaves the device, by the script's shape.
+pub record IsScriptLeft {D : Type 0} (shape : Shape) (tells : Bool) (content : D → Content) (moment : D → ℕ) (left_since : D → ℕ → List ℕ → Type 0) (faults_of : D → ℕ) (old new : D) (cut_off : Bool) (acked : ℕ) : Type 0 where
+  pub later : faults_of old ≤ faults_of new
+  pub left : IsTrue tells → ((acked ≡ 0) × (content old ≡ settled (content old).seen → LeavesOnly moment left_since old new (IsKept (content old).seen)))
+      ⊎ (HoldsFound shape (content old).seen (content new) acked ⊎ ((found : List EntryKind) × HasFound (content old).seen shape found × HoldsAcked shape found (content new) (faults_of old) (faults_of new) cut_off acked))

@@ -1,5 +1,5 @@
 //! `run`: the clients of a script, beside each other over the log.
-ghost use Rattle.std.specs.Prelude.{◌≡◌, ◌≢◌, ◌≤◌, ◌⊎◌, ℕ, List, length, map, take, IsTrue, IfOk, IfErr, IfSome, IsErr, None, Ok, Err};
+ghost use Rattle.std.specs.Prelude.{◌≡◌, ◌≢◌, ◌≤◌, ◌⊎◌, ℕ, List, false, length, map, take, IsTrue, IfOk, IfErr, IfSome, IsErr, None, Ok, Err};
 ghost use Rattle.std.specs.List.{AllByRecursion};
 ghost use Rattle.hy_base.specs.Log.{IsLawful};
 ghost use Rattle.hy_base.specs.Shape.{IsGoodShape, IsWithin, whole_groups};
@@ -10,8 +10,10 @@ ghost use Rattle.hy_check.specs.Listing.{IsSound};
 ghost use Rattle.hy_hub.specs.Outset.{IsOutset};
 ghost use Rattle.hy_disk.specs.Content.{Image};
 ghost use Rattle.hy_log.specs.View.{Holds};
-ghost use Rattle.hy_run.specs.Running.{IsRunOn, IsScriptRun};
-ghost use Rattle.hy_run.specs.RunningParts.{HoldsMore, IsConfig, IsRanFault, IsRanText, IsScriptFault, LeavesAtMost, opening_status, servers_at, told_text};
+ghost use Rattle.hy_run.specs.Obeying.{ends_early, ends_first};
+ghost use Rattle.hy_run.specs.Output.{kind_of, log_refused};
+ghost use Rattle.hy_run.specs.Running.{IsScriptRun};
+ghost use Rattle.hy_run.specs.RunningParts.{IsLeftOf, IsRanFault, IsRanText, IsScriptFault, IsScriptLeft, opening_status, servers_at, told_text};
 
 use crate::inspect::Inspected;
 use crate::live::live_of;
@@ -21,6 +23,7 @@ use hy_base::{
 };
 use hy_check::entries_of;
 use hy_clients::{Broken, Cause, Run, run_clients};
+use hy_codec::bodies_are_read;
 use hy_disk::Disk;
 use hy_log::{OpenError, PageLog, open_log};
 use hy_pipe::{Gate, Roller};
@@ -105,7 +108,7 @@ fn text_of(
 // The first field in which two shapes differ, and what each has there.
 fn differing(log: Shape, asked: Shape) -> Option<Status>
     ensures same { result ≡ None → log ≡ asked }
-    ensures other { IfSome result (λ status. (log ≢ asked) × IsConfig status) }
+    ensures other { IfSome result (λ status. (log ≢ asked) × (kind_of status ≡ log_refused)) }
 {
     if log.group != asked.group {
         return Some(Status::Config {
@@ -136,7 +139,6 @@ fn closed<D: Disk>(log: PageLog<D>, status: Status) -> Inspected<D>
     ensures text { result.text ≡ Err status }
     ensures acked { result.acked ≡ length log.bodies }
     ensures disk { result.log ≡ log.disk }
-    ensures left { IsTrue D.tells → LeavesAtMost (D.content result.log) log }
     ensures exact { IsTrue D.tells → log.stopped ≡ None → (image : List ℕ) → Image (D.content result.log) image → Holds log.shape log.bodies image }
 {
     Inspected {
@@ -176,7 +178,6 @@ fn cut<D: Disk>(broken: Broken<D>) -> Inspected<D>
     ensures text { IfErr result.text (λ status. ((status ≡ Status.Device Which.Log) × (broken.cause ≡ Cause.Device)) ⊎ (status ≡ Status.Memory)) × IsErr result.text }
     ensures acked { result.acked ≡ length broken.log.bodies }
     ensures disk { result.log ≡ broken.log.disk }
-    ensures left { IsTrue D.tells → LeavesAtMost (D.content result.log) broken.log }
     ensures exact { IsTrue D.tells → broken.log.stopped ≡ None → (image : List ℕ) → Image (D.content result.log) image → Holds broken.log.shape broken.log.bodies image }
 {
     let status = match broken.cause {
@@ -225,10 +226,11 @@ fn run_from<R: Threads + Wait + Sync, D: Disk + Send, G: Gate + Sync>(
     requires read { IsTrue D.tells → entries_past script.now.shape 0 log.bodies ≡ Ok entries.items }
     requires threads { IsWithin 1 16 threads }
     ensures text { IfOk result.text (λ text. IsRanText D.tells script.now log.bodies (D.content result.log) result.acked text.items) }
-    ensures refused { IfErr result.text (IsRanFault D.tells script.now.shape log.shape log.bodies (D.faults_of log.disk) (D.faults_of result.log)) }
-    ensures left { IsTrue D.tells → HoldsMore log.shape log.bodies (D.content result.log) (D.faults_of log.disk) (D.faults_of result.log) result.acked }
+    ensures refused { IfErr result.text (IsRanFault D.tells script.now.shape log.shape log.bodies (D.faults_of log.disk) (D.faults_of result.log) result.acked) }
+    ensures left { IsTrue D.tells → IsLeftOf log.shape log.bodies (D.content result.log) (D.faults_of log.disk) (D.faults_of result.log) (ends_early result.text) result.acked }
     ensures later { D.faults_of log.disk ≤ D.faults_of result.log }
 {
+    bodies_are_read();
     let _ = script.shape();
     match run_clients(rt, alloc, script, log, entries, roller, threads, gate) {
         Ok(run) => ran(alloc, run),
@@ -254,8 +256,8 @@ fn run_after<R: Threads + Wait + Sync, D: Disk + Send, G: Gate + Sync>(
     requires sound { AllByRecursion IsSound entries.items }
     requires threads { IsWithin 1 16 threads }
     ensures text { IfOk result.text (λ text. IsRanText D.tells script.now log.bodies (D.content result.log) result.acked text.items) }
-    ensures refused { IfErr result.text (IsRanFault D.tells script.now.shape log.shape log.bodies (D.faults_of log.disk) (D.faults_of result.log)) }
-    ensures left { IsTrue D.tells → HoldsMore log.shape log.bodies (D.content result.log) (D.faults_of log.disk) (D.faults_of result.log) result.acked }
+    ensures refused { IfErr result.text (IsRanFault D.tells script.now.shape log.shape log.bodies (D.faults_of log.disk) (D.faults_of result.log) result.acked) }
+    ensures left { IsTrue D.tells → IsLeftOf log.shape log.bodies (D.content result.log) (D.faults_of log.disk) (D.faults_of result.log) (ends_early result.text) result.acked }
     ensures later { D.faults_of log.disk ≤ D.faults_of result.log }
 {
     match start(rt, alloc, script.shape(), entries, threads, gate) {
@@ -279,8 +281,8 @@ fn run_through<R: Threads + Wait + Sync, D: Disk + Send, G: Gate + Sync>(
     requires shape { log.shape ≡ script.now.shape }
     requires threads { IsWithin 1 16 threads }
     ensures text { IfOk result.text (λ text. IsRanText D.tells script.now log.bodies (D.content result.log) result.acked text.items) }
-    ensures refused { IfErr result.text (IsRanFault D.tells script.now.shape log.shape log.bodies (D.faults_of log.disk) (D.faults_of result.log)) }
-    ensures left { IsTrue D.tells → HoldsMore log.shape log.bodies (D.content result.log) (D.faults_of log.disk) (D.faults_of result.log) result.acked }
+    ensures refused { IfErr result.text (IsRanFault D.tells script.now.shape log.shape log.bodies (D.faults_of log.disk) (D.faults_of result.log) result.acked) }
+    ensures left { IsTrue D.tells → IsLeftOf log.shape log.bodies (D.content result.log) (D.faults_of log.disk) (D.faults_of result.log) (ends_early result.text) result.acked }
     ensures later { D.faults_of log.disk ≤ D.faults_of result.log }
 {
     match entries_of(alloc, &mut log) {
@@ -301,8 +303,8 @@ fn run_on<R: Threads + Wait + Sync, D: Disk + Send, G: Gate + Sync>(
     requires running { log.stopped ≡ None }
     requires threads { IsWithin 1 16 threads }
     ensures text { IfOk result.text (λ text. IsRanText D.tells script.now log.bodies (D.content result.log) result.acked text.items) }
-    ensures refused { IfErr result.text (IsRanFault D.tells script.now.shape log.shape log.bodies (D.faults_of log.disk) (D.faults_of result.log)) }
-    ensures left { IsTrue D.tells → HoldsMore log.shape log.bodies (D.content result.log) (D.faults_of log.disk) (D.faults_of result.log) result.acked }
+    ensures refused { IfErr result.text (IsRanFault D.tells script.now.shape log.shape log.bodies (D.faults_of log.disk) (D.faults_of result.log) result.acked) }
+    ensures left { IsTrue D.tells → IsLeftOf log.shape log.bodies (D.content result.log) (D.faults_of log.disk) (D.faults_of result.log) (ends_early result.text) result.acked }
     ensures later { D.faults_of log.disk ≤ D.faults_of result.log }
 {
     match differing(log.shape(), script.shape()) {
@@ -339,8 +341,9 @@ pub fn run_script<R: Threads + Wait + Sync, D: Disk + Send, G: Gate + Sync>(
 ) -> Inspected<D>
     requires threads { IsWithin 1 16 threads }
     ensures text { IfOk result.text (λ text. IsScriptRun script.now D.tells (D.content log).seen (D.content result.log) result.acked text.items) }
-    ensures refused { IfErr result.text (IsScriptFault D.tells script.now.shape (D.content log).seen (D.faults_of log) (D.faults_of result.log)) }
-    ensures left { IsRunOn D.tells D.content D.moment D.left_since D.faults_of log result.log result.acked }
+    ensures refused { IfErr result.text (IsScriptFault D.tells script.now.shape (D.content log).seen (D.faults_of log) (D.faults_of result.log) result.acked) }
+    ensures reached { ends_first result.text ≡ false }
+    ensures left { IsScriptLeft script.now.shape D.tells D.content D.moment D.left_since D.faults_of log result.log (ends_early result.text) result.acked }
 {
     match open_log(alloc, log, Some(script.shape())) {
         Ok(opened) => run_on(rt, alloc, script, opened, threads, gate),

@@ -8,25 +8,11 @@
 //! wanting; all but 0 and 4 have one line. Nothing goes to the standard error.
 #![tactic(auto)]
 
-ghost use Rattle.std.specs.Prelude.{◌≡◌, ◌≤◌, ◌⊎◌, ℕ, IfOk, map, string_bytes};
+ghost use Rattle.std.specs.Prelude.{◌≡◌, ℕ, IfOk, map, string_bytes};
 ghost use Rattle.std.specs.Vec.Iter.{into_iter_items};
 ghost use Rattle.std.specs.Process.{exit_status};
-ghost use Rattle.std.specs.Io.KnownBytes.{Appends};
-ghost use Rattle.hy_base.specs.Faults.{Rose};
-ghost use Rattle.hy_base.specs.Spelling.{Text};
-ghost use Rattle.hy_cli.specs.Matches.{Asks, refuses};
-ghost use Rattle.hy_cli.specs.declared.line.Line.{Line};
-ghost use Rattle.hy_cli.specs.declared.line.Line.TheVariants.{Run};
-ghost use Rattle.hy_disk.specs.Content.{Content};
-ghost use Rattle.hy_rules.specs.declared.damage.Damage.{Damage};
-ghost use Rattle.hy_rules.specs.declared.damage.LogPlace.{LogPlace};
-ghost use Rattle.hy_rules.specs.Texts.{usage_text};
-ghost use Rattle.hy_run.specs.Obeying.{IsLogCause, IsScriptCause, IsTextOf};
-ghost use Rattle.hy_run.specs.Output.{WritesLine, WritesPartOf, status_number};
-ghost use Rattle.hy_run.specs.Running.{IsLogRefused};
-ghost use Rattle.hy_run.specs.declared.status.Status.TheVariants.{Config};
-ghost use Rattle.hy_base.specs.declared.layout.Field.{Field};
-ghost use Rattle.hy_script.specs.declared.why.Why.{Why};
+ghost use Rattle.hy_run.specs.Answering.{Devices, IsCall, devices_of, ends_at};
+ghost use Rattle.hy_run.specs.Output.{status_number};
 
 use hy_base::Words;
 use hy_disk::Disk;
@@ -78,22 +64,8 @@ fn call<R: Threads + Wait + Sync, S: Source, K: Sink, D: Disk + Drop + Send, G: 
     points: D,
     gate: &G,
 ) -> ExitCode
-    // What each exit status says.
-    ensures fine { exit_status result ≡ 0 → (line : Line) × (text : Text) × (now : Content) × (acked : ℕ) × Asks words.now line × IsTextOf line (S.left source.old) D.tells (D.content log).seen now acked text × Appends (K.taken sink.old) (K.taken sink.new) text }
-    ensures usage { exit_status result ≡ 1 → refuses words.now }
-    ensures script { exit_status result ≡ 2 → (n : ℕ) × (why : Why) × ((line : Line) × Asks words.now line × IsScriptCause line (S.left source.old) n why) }
-    ensures source { exit_status result ≡ 3 → Rose (S.faults source.old) (S.faults source.new) }
-    ensures sink { exit_status result ≡ 4 → Rose (K.faults sink.old) (K.faults sink.new) }
-    ensures sink_part { exit_status result ≡ 4 → (line : Line) × (text : Text) × (now : Content) × (acked : ℕ) × Asks words.now line × IsTextOf line (S.left source.old) D.tells (D.content log).seen now acked text × WritesPartOf (K.taken sink.old) (K.taken sink.new) text }
-    ensures log { exit_status result ≡ 6 → (place : LogPlace) × (why : Damage) × ((line : Line) × Asks words.now line × IsLogCause line (S.left source.old) D.tells (D.content log).seen place why) }
-    ensures config { exit_status result ≡ 7 → (field : Field) × (held : ℕ) × (asked : ℕ) × ((threads : ℕ) × Asks words.now (Run threads) × IsLogRefused (S.left source.old) D.tells (D.content log).seen (Config field held asked)) }
-    ensures others { (exit_status result ≤ 7) ⊎ (exit_status result ≡ 9) }
-
-    // When it must come, unless memory runs out.
-    ensures usage_always { refuses words.now → (exit_status result ≡ 1) ⊎ (exit_status result ≡ 9) }
-
-    // The line of a fault of usage.
-    ensures usage_line { exit_status result ≡ 1 → WritesLine (K.taken sink.old) (K.taken sink.new) (K.faults sink.old) (K.faults sink.new) usage_text }
+    // The exit status is that of an answer which is right, and what the ends are left with is what it says.
+    ensures { (answer : Status) × (left : Devices D) × (acked : ℕ) × (exit_status result ≡ status_number answer) × IsCall D.tells D.content D.moment D.left_since D.faults_of words.now (ends_at (S.left source.old) (S.faults source.old) (K.taken sink.old) (K.faults sink.old)) (ends_at (S.left source.new) (S.faults source.new) (K.taken sink.new) (K.faults sink.new)) (devices_of log points) left answer acked }
 {
     let done = hyder_call(rt, alloc, words, source, sink, log, points, gate);
     exit_code(done.status)

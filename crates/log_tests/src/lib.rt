@@ -8,6 +8,8 @@ mod damage;
 #[cfg(test)]
 mod devices;
 #[cfg(test)]
+mod failed_gate;
+#[cfg(test)]
 mod file;
 #[cfg(test)]
 mod memory;

@@ -9,9 +9,9 @@ use hy_mem::MemDisk;
 use std::alloc::Global;
 use std::test::Fail;
 
-// The log on a device, which has this shape, with room and memory for a few appends. None where memory is wanting, or no
-// log of the shape can be opened.
-fn log_with_room(alloc: Global, disk: MemDisk, shape: Shape) -> Option<PageLog<MemDisk>>
+/// The log on a device, which has this shape, with room and memory for a few appends. None where memory is wanting, or no
+/// log of the shape can be opened.
+pub fn log_with_room(alloc: Global, disk: MemDisk, shape: Shape) -> Option<PageLog<MemDisk>>
     requires { IsGoodShape shape }
     ensures { IfSome result (λ log. 4 ≤ log.spare) }
 {

@@ -1,0 +1,139 @@
+//! Calls whose text, or what they leave, is told in the documents.
+use crate::calls::{Answer, RUN, ask, call, empty, fine, roomy, told};
+use crate::logs::{DUMP, one_entry, one_put};
+use hy_base::Shape;
+use hy_io::{MemSink, MemSource};
+use hy_log::open_log;
+use hy_mem::MemDisk;
+use hy_pipe::OpenGate;
+use hy_rules::{Damage, LogPlace};
+use hy_run::Status;
+use std::alloc::Global;
+use std::sync::Wait;
+use std::test::Fail;
+use std::thread::Threads;
+
+// How often a text has a word in it.
+fn count_in(text: &[u8], word: &[u8]) -> usize {
+    let mut count = 0usize;
+    for at in 0..text.len() {
+        if text[at..].starts_with(word) && count < 1000 {
+            count += 1;
+        }
+    }
+    count
+}
+
+// Runs so many clients that each add 1 at one key, and tells how many of them committed.
+fn added<R: Threads + Wait + Sync>(rt: &R, alloc: Global, script: &[u8]) -> Result<usize, Fail> {
+    let (done, sink) = ask(rt, alloc, RUN, script, empty(alloc)?)?;
+    let text = sink.taken();
+    if done.status != Status::Fine || count_in(text, b"\nsum ") != done.acked as usize {
+        return Err("each of them is answered")?;
+    }
+    let committed = count_in(text, b" commit\n");
+    if committed + count_in(text, b" abort ") != done.acked as usize {
+        return Err("each of them commits or aborts")?;
+    }
+    Ok(committed)
+}
+
+// The verdicts depend on the order of the events, but the row counts those that committed: none of their updates is lost.
+#[test]
+fn two_and_three_clients_add_at_one_key(rt: HostRuntime) -> Result<(), Fail> {
+    let alloc = rt.alloc();
+    let two: &[u8] =
+        b"shape 1 1 8\nservers 1\nclient 1\nbegin\nadd 7 1\nend\nclient 1\nbegin\nadd 7 1\nend\n";
+    let three: &[u8] =
+        b"shape 1 1 8\nservers 1\nclient 1\nbegin\nadd 7 1\nend\nclient 1\nbegin\nadd 7 1\nend\nclient 1\nbegin\nadd 7 1\nend\n";
+    for script in [two, three] {
+        let committed = added(&rt, alloc, script)?;
+        assert!(rt; committed >= 1 && committed <= 3);
+    }
+    Ok(())
+}
+
+// A program that reads what it wrote records no point.
+#[test]
+fn own_writes_are_no_reads(rt: HostRuntime) -> Result<(), Fail> {
+    let alloc = rt.alloc();
+    let script: &[u8] = b"shape 1 1 8\nservers 1\nclient 1\nbegin\nput 5 a\nget 5\nend\n";
+    let text: &[u8] =
+        b"trace 3\nb 1\na 1\nr 1 1\nprogram 1 1\nok\nvalue a\nat 1 commit\nserver 1 at 1 rows 1\nrow 5 a by 1\n";
+    let log = told(
+        &rt,
+        alloc,
+        "the own write",
+        RUN,
+        script,
+        empty(alloc)?,
+        fine(1, text),
+    )?;
+    let body = [
+        1, 1, 1, 0, 0, 0, 0, 0, 0, 1, 5, 0, 0, 0, 0, 0, 0, 0, 1, 1, 0, b'a',
+    ];
+    assert!(rt; log.bytes() == one_entry(1, &body).as_slice());
+    Ok(())
+}
+
+// A log whose one body was appended as it is.
+fn appended(alloc: Global, body: &[u8; 35]) -> Result<MemDisk, Fail> {
+    let shape = Shape {
+        group: 1,
+        window: 1,
+        cap: 8,
+    };
+    let Ok(mut log) = open_log(alloc, empty(alloc)?, Some(shape)) else {
+        return Err("not opened")?;
+    };
+    log.reserve(1)?;
+    let Ok(1) = log.append(body) else {
+        return Err("not appended")?;
+    };
+    Ok(log.close())
+}
+
+// Points 9 and 4, by an append of the log.
+#[test]
+fn an_appended_entry_is_out_of_order(rt: HostRuntime) -> Result<(), Fail> {
+    let alloc = rt.alloc();
+    let body = [
+        1, 1, 1, 0, 0, 0, 0, 2, 0, 1, 9, 0, 0, 0, 0, 0, 0, 0, 4, 0, 0, 0, 0, 0, 0, 0, 1, 0, 0, 0,
+        0, 0, 0, 0, 0,
+    ];
+    let place = LogPlace::Entry(1);
+    let why = Damage::Order;
+    let wanted = Answer {
+        status: Status::Log { place, why },
+        acked: 1,
+        text: b"hyder: log entry 1 order\n",
+    };
+    let script: &[u8] = b"shape 1 1 8\nservers 1\n";
+    for asked in ["recover", "check", "run"] {
+        let log = appended(alloc, &body)?;
+        let log = told(&rt, alloc, asked, &[asked], script, log, wanted)?;
+        assert!(rt; log.bytes() == one_entry(1, &body).as_slice());
+    }
+    Ok(())
+}
+
+// A command that looks at the log reads no source, so a source that fails isn't noticed.
+#[test]
+fn a_look_at_the_log_reads_no_source(rt: HostRuntime) -> Result<(), Fail> {
+    let alloc = rt.alloc();
+    let mut source = MemSource::new(alloc, b"no script", 7, &[1])?;
+    let mut sink = MemSink::new(alloc, 1000, 1000, &[])?;
+    let log = roomy(alloc, &one_put())?;
+    let done = call(
+        &rt,
+        alloc,
+        &["recover"],
+        &mut source,
+        &mut sink,
+        log,
+        &OpenGate,
+    )?;
+    assert!(rt; done.status == Status::Fine && done.acked == 1);
+    assert_eq!(rt; sink.taken(), DUMP);
+    Ok(())
+}
