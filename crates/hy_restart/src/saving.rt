@@ -43,10 +43,8 @@ fn close_gate<D: Disk>(points: &mut D) -> Result<(), Failed>
     shut(points, 0, closed)
 }
 
-/// Puts these bytes behind the gate at byte 0: it closes the gate, and opens it once they are on the disk.
-///
-/// `Failed`: a fault. The device is as a crash in the midst of the call may leave it.
-pub fn save_record<D: Disk>(points: &mut D, rest: &[u8]) -> Result<(), Failed>
+// Puts these bytes behind the gate at byte 0: it closes the gate, and opens it once they are on the disk.
+fn save_record<D: Disk>(points: &mut D, rest: &[u8]) -> Result<(), Failed>
     requires { length rest.now < 2 ^ 63 }
     ensures saved { IsTrue D.tells → OnOk result (IsSaved rest.now (D.content points.new)) }
     ensures any_moment { IsTrue D.tells → D.content points.old ≡ settled (D.content points.old).seen
