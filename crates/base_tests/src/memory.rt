@@ -1,6 +1,6 @@
 //! Each way to fail is tried on the same calls, with answers and bytes counted by hand.
-use hy_mem::MemDisk;
 use hy_disk::{Disk, Failed, Tuned};
+use hy_mem::MemDisk;
 use std::alloc::{AllocError, Global};
 use std::process::Abort;
 use std::test::Fail;

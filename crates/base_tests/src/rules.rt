@@ -3,8 +3,8 @@ ghost use Rattle.std.specs.Prelude.{ℕ, ◌≡◌, ◌⊎◌, IfOk};
 ghost use Rattle.hy_base.specs.Shape.{IsWithin};
 ghost use Rattle.hy_base.specs.Log.{HasLawfulSnap};
 
-use hy_rules::{Folded, plain_fold};
 use hy_base::{Clash, Entry, Intention, Items, Shape, Value, Verdict, Write};
+use hy_rules::{Folded, plain_fold};
 use std::alloc::Global;
 use std::test::Fail;
 

@@ -69,7 +69,10 @@ fn what_is_read_is_written(rt: HostRuntime) -> Result<(), Fail> {
     }
     let bytes = filler(rt.alloc(), 3)?;
     assert_eq!(rt; bytes.as_slice(), FILLER.as_slice());
-    assert_eq!(rt; respelled(rt.alloc(), &FILLER)?.as_slice(), FILLER.as_slice());
+    assert_eq!(rt;
+        respelled(rt.alloc(), &FILLER)?.as_slice(),
+        FILLER.as_slice()
+    );
     Ok(())
 }
 

@@ -1,6 +1,6 @@
 //! Inputs that are read and refused.
-use hy_input::read_input;
 use hy_base::Event;
+use hy_input::read_input;
 use hy_script::{ReadError, Refused, Why};
 use std::test::Fail;
 

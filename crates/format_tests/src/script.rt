@@ -1,6 +1,6 @@
 //! Scripts and schedules that are read and refused.
-use hy_script::{EventLine, ReadError, Refused, ScheduleStart, Why, read_schedule, read_script};
 use hy_base::{Command, Event, Program, Script};
+use hy_script::{EventLine, ReadError, Refused, ScheduleStart, Why, read_schedule, read_script};
 use std::alloc::Global;
 use std::test::Fail;
 

@@ -1,9 +1,7 @@
 //! Texts of a log with an open group, and lines that no whole call writes. The other texts are those of whole calls.
 ghost use Rattle.std.specs.Prelude.{◌≡◌, None};
 
-use hy_base::{
-    Clash, Entry, Intention, Items, Points, Shape, Span, Spans, Value, Verdict, Write,
-};
+use hy_base::{Clash, Entry, Intention, Items, Points, Shape, Span, Spans, Value, Verdict, Write};
 use hy_text::{memory_line, page_line, write_check, write_dump};
 use std::alloc::Global;
 use std::test::Fail;

@@ -1,5 +1,5 @@
-use hy_cli::{CliError, Line, parse};
 use hy_base::Words;
+use hy_cli::{CliError, Line, parse};
 use std::alloc::{AllocError, Global};
 use std::test::Fail;
 

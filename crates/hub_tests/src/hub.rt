@@ -4,12 +4,12 @@ ghost use Rattle.hy_base.specs.Shape.{IsGoodShape, IsWithin};
 ghost use Rattle.hy_hub.specs.Calls.{IsIdle};
 ghost use Rattle.hub_tests.specs.Trial.{IsTrial, IsPutOf};
 
-use hy_hub::*;
 use hy_base::{
     Entry, Event, Home, Intention, Phase, Points, Pos, Shape, Spans, Value, Verdict, Write, Writes,
 };
 use hy_disk::{Disk, Tuned};
 use hy_hist::Pass;
+use hy_hub::*;
 use hy_log::{PageLog, open_log};
 use hy_mem::MemDisk;
 use hy_pipe::{OpenGate, Roller, Told};

@@ -1,6 +1,6 @@
 //! Spans as blocks, at the ends of the range of keys too.
-use hy_mark::cover;
 use hy_base::{Key, Span};
+use hy_mark::cover;
 use std::alloc::{AllocError, Global};
 use std::test::Fail;
 

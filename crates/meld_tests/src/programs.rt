@@ -2,8 +2,8 @@
 ghost use Rattle.std.specs.Prelude.{◌≡◌, true, IfSome};
 ghost use Rattle.hy_base.specs.Script.{IsCommand, IsProgram};
 
-use hy_exec::{Executed, Finished, run_program};
 use hy_base::{Answer, Command, EntryKind, Intention, Items, Program, Value};
+use hy_exec::{Executed, Finished, run_program};
 use hy_tree::Tree;
 use std::alloc::Global;
 use std::str;

@@ -2,11 +2,11 @@
 ghost use Rattle.std.specs.Prelude.{◌≡◌, ◌≤◌, IfOk};
 ghost use Rattle.hy_base.specs.Shape.{IsGoodShape};
 
-use hy_pipe::*;
 use hy_base::{
     Clash, Entry, Intention, Key, Points, Pos, Shape, Shared, Span, Spans, Value, ValueError,
     Verdict, Write, Writes,
 };
+use hy_pipe::*;
 use hy_tree::Tree;
 use std::alloc::{AllocError, Global};
 use std::sync::atomic::{AtomicU32, Ordering};

@@ -1,8 +1,8 @@
 //! Each call once with ample memory, and keys at the ends of their range.
 ghost use Rattle.std.specs.Prelude.{◌≡◌, ◌<◌};
 
-use hy_tree::*;
 use hy_base::{Key, Pos, Row, Steps, Value, ValueError};
+use hy_tree::*;
 use std::alloc::{AllocError, Global};
 use std::marker::Brand;
 use std::sync::ledger::{Blank, Ledger};

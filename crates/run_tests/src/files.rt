@@ -29,7 +29,15 @@ fn told<R: Threads + Wait + Sync, D: Disk + Drop + Send>(
     let mut source = MemSource::new(alloc, script.as_bytes(), 1000, &[])?;
     let mut sink = MemSink::new(alloc, 100000, 1000, &[])?;
     let devices = (log, points);
-    let done = call_on(rt, alloc, &[command], &mut source, &mut sink, devices, &OpenGate)?;
+    let done = call_on(
+        rt,
+        alloc,
+        &[command],
+        &mut source,
+        &mut sink,
+        devices,
+        &OpenGate,
+    )?;
     if done.status != Status::Fine {
         return Err("a call does not end well")?;
     }
