@@ -25,6 +25,7 @@ use Rattle.hy_rules.specs.Runs.{setting_of, opening_of, run, is_finished, ended_
 use Rattle.hy_rules.specs.Texts.{trace_text, report_text}
 use Rattle.hy_rules.specs.Validation.{rows}
 use Rattle.hy_serial.specs.Laws.{CommittedRunsSerially}
+use Rattle.hy_serial.proofs.InOrder.{sessions_are_ordered}
 use Rattle.hy_serial.proofs.Serializable.{committed_runs_serially}
 use Rattle.hy_pipe.proofs.Standing.{growth_keeps_standing}
 use Rattle.hy_disk.specs.Content.{Content, Image}
@@ -89,6 +90,7 @@ module _ {D : Type 0} {tells : Bool} {script : Workload} {found : List EntryKind
         calm = f.calm;
         finished = f.finished;
         serial = serial script found events f.end is lawful.capacity f.leads f.finished;
+        sessions = sessions_are_ordered script found events f.end is.shape.group.at_least f.leads;
         results_are = (λ i. record {
           replies = f.replies_are i;
           servers = (server_rows script.shape f.end.log boards is.shape f.shapes f.stand ∙ ap (map (server_of script.shape f.end.log)) f.boards_are) i;

@@ -19,6 +19,7 @@ use Rattle.hy_rules.specs.Recovery.{recovered}
 use Rattle.hy_rules.specs.Runs.{run, opening_of, is_finished, ended_in, results_at}
 use Rattle.hy_rules.specs.Texts.{trace_text, report_text}
 use Rattle.hy_serial.specs.Laws.{IsSerializable}
+use Rattle.hy_serial.specs.Sessions.{IsSessionOrdered}
 use Rattle.hy_serial.specs.Serial.{serial_run}
 use Rattle.hy_disk.specs.Content.{Content, Image, settled}
 use Rattle.hy_disk.specs.Moments.{LeavesOnly}
@@ -74,12 +75,13 @@ pub record HoldsEntries (shape : Shape) (entries : List EntryKind) (image : List
 
 -- ---- the run
 
--- The text tells these events: each may happen in its turn on the log that was found, none is a stop, and they lead to this state. The run is finished and serializable.
+-- The text tells these events: each may happen in its turn on the log that was found, none is a stop, and they lead to this state. The run is finished, serializable, and in the order of its sessions.
 pub record TellsClients (script : Workload) (found : List EntryKind) (events : List Event) (end : State) (results : Results) : Type 0 where
   pub leads : run script (opening_of script found) events ≡ Some end
   pub calm : list_any is_stop events ≡ false
   pub finished : is_finished script end ≡ true
   pub serial : IsSerializable (serial_run script found events end)
+  pub sessions : IsSessionOrdered script found events
   pub results_are : results ≡ results_at script (ended_in script (opening_of script found) events) end
 
 -- A run of a script on the log that a device with these bytes had. The device holds just the entries of the state to which it led, and so does each image that a crash now leaves. These are the acknowledged ones.

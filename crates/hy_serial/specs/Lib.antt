@@ -5,3 +5,4 @@ pub use Rattle.hy_rules.specs.Moves
 pub use Rattle.hy_rules.specs.Runs
 pub mod Serial
 pub mod Laws
+pub mod Sessions

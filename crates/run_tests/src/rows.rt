@@ -32,7 +32,8 @@ fn added<R: Threads + Wait + Sync>(rt: &R, alloc: Global, script: &[u8]) -> Resu
         return Err("each of them is answered")?;
     }
     let committed = count_in(text, b" commit\n");
-    if committed + count_in(text, b" abort ") != done.acked as usize {
+    let aborted = count_in(text, b" abort ");
+    if committed.checked_add(aborted) != Some(done.acked as usize) {
         return Err("each of them commits or aborts")?;
     }
     Ok(committed)
