@@ -1,6 +1,6 @@
 //! Small logs, rolled whole and in every cut.
 ghost use Rattle.std.specs.Prelude.{◌≡◌, ◌≤◌, IfOk};
-ghost use Rattle.hy_base.specs.Shape.{IsGoodShape};
+ghost use Rattle.hy_base.specs.Shape.{IsGoodShape, IsWithin};
 
 use hy_base::{
     Clash, Entry, Intention, Key, Points, Pos, Shape, Shared, Span, Spans, Value, ValueError,
@@ -69,10 +69,12 @@ fn further<R: Threads + Sync, G: Gate + Sync>(
     shape: Shape,
     roller: &Roller,
     entries: &[Shared<Entry>],
+    threads: usize,
     gate: &G,
 ) -> Result<Roller, Fail>
     requires good { IsGoodShape shape }
     requires same { roller.now.shape ≡ shape }
+    requires threads { IsWithin 1 16 threads }
     ensures { IfOk result (λ r. r.shape ≡ shape) }
 {
     if entries.len() % usize::from(shape.group) != 0 {
@@ -82,7 +84,7 @@ fn further<R: Threads + Sync, G: Gate + Sync>(
     if room < entries.len() || shape.cap < roller.at() {
         return Err(Fail::new("the log is full"));
     }
-    Ok(roller.roll(rt, alloc, entries, 2, gate)?)
+    Ok(roller.roll(rt, alloc, entries, threads, gate)?)
 }
 
 fn shape(group: u8, window: u8, cap: Pos) -> Result<Shape, Fail>
@@ -105,7 +107,7 @@ fn rolled<R: Threads + Sync>(
 {
     let entries = log(alloc, items)?;
     let roller = Roller::new(alloc, shape)?;
-    further(rt, alloc, shape, &roller, &entries, &OpenGate)
+    further(rt, alloc, shape, &roller, &entries, 2, &OpenGate)
 }
 
 // Whether these are the verdicts from position 1 on.
@@ -311,20 +313,23 @@ fn in_parts<R: Threads + Sync, G: Gate + Sync>(
     shape: Shape,
     entries: &[Shared<Entry>],
     place: usize,
+    threads: usize,
     gate: &G,
 ) -> Result<Roller, Fail>
-    requires { IsGoodShape shape }
+    requires good { IsGoodShape shape }
+    requires threads { IsWithin 1 16 threads }
+    ensures { IfOk result (λ r. r.shape ≡ shape) }
 {
     if entries.len() < place {
         return Err(Fail::new("the log is shorter"));
     }
     let (front, back) = entries.split_at(place);
     let roller = Roller::new(alloc, shape)?;
-    let part = further(rt, alloc, shape, &roller, front, gate)?;
-    further(rt, alloc, shape, &part, back, gate)
+    let part = further(rt, alloc, shape, &roller, front, threads, gate)?;
+    further(rt, alloc, shape, &part, back, threads, gate)
 }
 
-// One more of the roller of both parts is the same as the whole.
+// One more of the roller of both parts is the same as the whole, by any number of threads.
 fn is_cut_well<R: Threads + Sync>(
     rt: &R,
     alloc: Global,
@@ -335,9 +340,14 @@ fn is_cut_well<R: Threads + Sync>(
 ) -> Result<bool, Fail>
     requires { IsGoodShape shape }
 {
-    let both = in_parts(rt, alloc, shape, entries, place, &OpenGate)?;
-    let again = both.share()?;
-    Ok(are_same(whole, &again))
+    for threads in [1, 2, 16] {
+        let both = in_parts(rt, alloc, shape, entries, place, threads, &OpenGate)?;
+        let again = both.share()?;
+        if !are_same(whole, &again) {
+            return Ok(false);
+        }
+    }
+    Ok(true)
 }
 
 // Whether each cut of the log rolls as the whole.
@@ -362,7 +372,7 @@ fn are_cut_well<R: Threads + Sync>(
 fn each_cut_rolls_the_same(rt: HostRuntime) -> Result<(), Fail> {
     let shape = shape(2, 2, 24)?;
     let entries = mixed(rt.alloc())?;
-    let whole = in_parts(&rt, rt.alloc(), shape, &entries, 24, &OpenGate)?;
+    let whole = in_parts(&rt, rt.alloc(), shape, &entries, 24, 1, &OpenGate)?;
     assert!(rt; are_cut_well(&rt, rt.alloc(), shape, &entries, &whole)?);
     Ok(())
 }
@@ -374,9 +384,106 @@ fn each_group_enters_once(rt: HostRuntime) -> Result<(), Fail> {
         numbers: AtomicU32::new(0),
     };
     let entries = mixed(rt.alloc())?;
-    let roller = in_parts(&rt, rt.alloc(), shape(2, 2, 24)?, &entries, 6, &gate)?;
+    let roller = in_parts(&rt, rt.alloc(), shape(2, 2, 24)?, &entries, 6, 16, &gate)?;
     assert_eq!(rt; roller.at(), 24);
     assert_eq!(rt; gate.entered.load(Ordering::SeqCst), 12);
     assert_eq!(rt; gate.numbers.load(Ordering::SeqCst), 78);
+    Ok(())
+}
+
+// Keeps the first group until the second one has entered. It gives up after a number of turns.
+#[derive(Drop)]
+struct Meeting {
+    second: AtomicU32,
+    gave_up: AtomicU32,
+}
+
+impl Gate for Meeting {
+    fn enter(&self, group: u32) {
+        if group == 2 {
+            self.second.store(1, Ordering::SeqCst);
+            return;
+        }
+        for _turn in 0..100000000 {
+            if self.second.load(Ordering::SeqCst) == 1 {
+                return;
+            }
+        }
+        self.gave_up.fetch_add(1, Ordering::SeqCst);
+    }
+
+    fn client(&self, _client: u32) {}
+}
+
+#[test]
+fn groups_of_a_window_are_staged_beside_each_other(rt: HostRuntime) -> Result<(), Fail> {
+    let gate = Meeting {
+        second: AtomicU32::new(0),
+        gave_up: AtomicU32::new(0),
+    };
+    let alloc = rt.alloc();
+    let entries = log(alloc, &[SUM, SUM])?;
+    let shape = shape(1, 2, 8)?;
+    let roller = Roller::new(alloc, shape)?;
+    let roller = further(&rt, alloc, shape, &roller, &entries, 2, &gate)?;
+    assert!(rt; tells(&roller, &[COMMIT, last(7, 1)]));
+    assert_eq!(rt; gate.gave_up.load(Ordering::SeqCst), 0);
+    Ok(())
+}
+
+// A roller that is resumed where another one is, from what that one has there.
+fn resumed(
+    alloc: Global,
+    shape: Shape,
+    entries: &[Shared<Entry>],
+    roller: &Roller,
+) -> Result<Roller, Fail>
+    requires good { IsGoodShape shape }
+    requires same { roller.now.shape ≡ shape }
+    ensures { IfOk result (λ r. r.shape ≡ shape) }
+{
+    let at = roller.at();
+    let rows = roller.base_tree().share()?;
+    let base = shape.base(at / u32::from(shape.group) + 1);
+    let mut flags = Vec::new(alloc);
+    for pos in base..at {
+        flags.push(roller.committed(pos + 1))?;
+    }
+    let (front, _) = entries.split_at(at as usize);
+    let (_, past) = front.split_at(base as usize);
+    Ok(Roller::resume(alloc, shape, at, rows, past, &flags)?)
+}
+
+// Whether two rollers tell the same past a position.
+fn are_same_past(one: &Roller, other: &Roller, from: Pos) -> bool {
+    let mut same = one.at() == other.at();
+    for key in 0..6 {
+        same = same && writer(one.tree(), key) == writer(other.tree(), key);
+        same = same && writer(one.base_tree(), key) == writer(other.base_tree(), key);
+    }
+    for pos in from..25 {
+        same = same && one.verdict(pos + 1) == other.verdict(pos + 1);
+    }
+    same
+}
+
+#[test]
+fn a_resumed_roller_goes_on_as_the_whole(rt: HostRuntime) -> Result<(), Fail> {
+    let alloc = rt.alloc();
+    let shape = shape(2, 2, 24)?;
+    let entries = mixed(alloc)?;
+    let whole = in_parts(&rt, alloc, shape, &entries, 24, 2, &OpenGate)?;
+    for place in [0, 2, 4, 6, 12, 14, 22, 24] {
+        let (front, back) = entries.split_at(place);
+        let start = Roller::new(alloc, shape)?;
+        let part = further(&rt, alloc, shape, &start, front, 2, &OpenGate)?;
+        let again = resumed(alloc, shape, &entries, &part)?;
+        let at = again.at();
+        assert_eq!(rt; again.verdict(at), Told::Past { from: at });
+        assert_eq!(rt; again.verdict(at + 1), Told::NotYet { at });
+        let end = further(&rt, alloc, shape, &again, back, 2, &OpenGate)?;
+        assert!(rt; are_same_past(&whole, &end, at), "from {at}");
+        assert_eq!(rt; end.verdict(at), Told::Past { from: at });
+    }
     Ok(())
 }
