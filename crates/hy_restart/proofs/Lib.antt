@@ -1,3 +1,3 @@
-pub mod Saves
-pub mod Logs
-pub mod RollerPoints
+pub mod Looks
+pub mod Restarts
+pub mod Starts

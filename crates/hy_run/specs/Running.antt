@@ -1,5 +1,5 @@
 -- What `run` writes, why it writes nothing, and how it leaves the log.
-use Rattle.std.specs.Prelude.{◌≡◌, ◌⊎◌, ℕ, ◌≤◌, Bool, true, false, IsTrue, List, [], ◌∷◌, ◌++◌, length, map, Option, Some, None, Result, Ok, Err}
+use Rattle.std.specs.Prelude.{◌≡◌, ◌⊎◌, ℕ, ◌≤◌, Bool, true, false, ◌&&◌, ◌||◌, IsTrue, List, [], ◌∷◌, ◌++◌, length, map, Option, Some, None, Result, Ok, Err}
 use Rattle.std.specs.List.{list_any}
 use mathlib.Core.List.{IsPrefix}
 use Rattle.hy_base.specs.declared.layout.Shape.{Shape}
@@ -10,13 +10,14 @@ use Rattle.hy_base.specs.Faults.{Rose}
 use Rattle.hy_base.specs.Log.{IsLawful}
 use Rattle.hy_base.specs.Script.{Workload, IsScript}
 use Rattle.hy_base.specs.Spelling.{Text}
-use Rattle.hy_rules.specs.declared.damage.BadEntry.{BadEntry}
 use Rattle.hy_rules.specs.declared.damage.LogPlace.TheVariants.{Page, Entry}
-use Rattle.hy_rules.specs.EntryFormat.{entries_past, spelling}
+use Rattle.hy_rules.specs.Checkpoint.{Checkpoint}
+use Rattle.hy_rules.specs.EntryFormat.{spelling}
 use Rattle.hy_rules.specs.LogFormat.{Held, is_unborn, log_in}
 use Rattle.hy_rules.specs.Moves.{State}
 use Rattle.hy_rules.specs.Recovery.{recovered}
 use Rattle.hy_rules.specs.Runs.{run, opening_of, is_finished, ended_in, results_at}
+use Rattle.hy_rules.specs.SavedPoints.{IsFit, IsLeftBySave, IsPointOf}
 use Rattle.hy_rules.specs.Texts.{trace_text, report_text}
 use Rattle.hy_serial.specs.Laws.{IsSerializable}
 use Rattle.hy_serial.specs.Sessions.{IsSessionOrdered}
@@ -29,12 +30,19 @@ use Rattle.hy_log.specs.Kept.{IsKept}
 use Rattle.hy_log.specs.Opening.{outcome}
 use Rattle.hy_log.specs.View.{Holds}
 use Rattle.hy_hub.specs.Trace.{is_stop}
+use Rattle.hy_restart.specs.declared.error.RestartError.{RestartError}
+use Rattle.hy_restart.specs.declared.error.RestartError.TheVariants as restarting
+use Rattle.hy_restart.specs.Restart.{IsStart, OnlyReads, StandsIfAny, as_point, asked_point, not_ahead, restart_in}
+use Rattle.hy_restart.specs.Saving.{HoldsPoint}
 use Rattle.hy_script.specs.declared.why.Why.{Why}
 use Rattle.hy_input.specs.Source.{read_input}
 use Rattle.hy_input.specs.declared.input.Input.{Input}
+use Rattle.hy_run.specs.Devices.{Counts, Found, Left}
 use Rattle.hy_run.specs.Output.{AreOf, IsFault, IsRefusedBy}
+use Rattle.hy_run.specs.declared.status.RunOptions.{RunOptions}
 use Rattle.hy_run.specs.declared.status.Status.{Status}
 use Rattle.hy_run.specs.declared.status.Status.TheVariants as status
+use Rattle.hy_run.specs.declared.status.Which.{Which}
 use Rattle.hy_run.specs.declared.status.Which.TheVariants as which
 
 -- ---- what was found
@@ -43,23 +51,32 @@ use Rattle.hy_run.specs.declared.status.Which.TheVariants as which
 abbrev pub HasFound : List ℕ → Shape → List EntryKind → Type 0
 HasFound seen shape found = (recovered seen ≡ Ok (record { shape = Some shape; entries = found })) ⊎ ((recovered seen ≡ Ok (record { shape = None; entries = [] })) × (found ≡ []))
 
--- why the entries of a log are refused, if they are
-abbrev pub entries_refused : Result (List EntryKind) (ℕ × BadEntry) → Option Status
-entries_refused (Ok entries) = None
-entries_refused (Err (pos, bad)) = Some (status.Log (Entry pos) bad.why)
+-- what is known of the saved point from which a run begins, if it begins from one: nothing, or that it stands for the log that was found
+abbrev pub Belongs : Shape → List EntryKind → Option Checkpoint → Type 0
+Belongs shape found point = StandsIfAny shape found point
 
--- why a log of this shape can't be run on, if it can't: a page, another shape behind the header, or an entry is the first to be refused
-abbrev pub opening_refused : Shape → Result Held OpenError → Option Status
-opening_refused shape (Ok held) = entries_refused (entries_past shape 0 held.bodies)
-opening_refused shape (Err opening.Memory) = None
-opening_refused shape (Err opening.Device) = None
-opening_refused shape (Err (opening.BadPage bad)) = Some (status.Log (Page bad.page) bad.why)
-opening_refused shape (Err (opening.Config field log asked)) = Some (status.Config field log asked)
-opening_refused shape (Err opening.Unborn) = None
+-- why a log and its saved point can't be restarted, if they can't
+abbrev pub restart_refused : Result (List EntryKind × Option Checkpoint) RestartError → Option Status
+restart_refused (Ok restart) = None
+restart_refused (Err restarting.Memory) = None
+restart_refused (Err restarting.LogDevice) = None
+restart_refused (Err restarting.PointsDevice) = None
+restart_refused (Err (restarting.BadEntry pos bad)) = Some (status.Log (Entry pos) bad.why)
+restart_refused (Err (restarting.BadPoint bad)) = Some (status.Point bad.place bad.why)
+restart_refused (Err (restarting.Ahead point log)) = Some (status.Ahead point log)
 
--- so that a script of this shape has no run on a device with these bytes
-abbrev pub refused_log : Shape → List ℕ → Option Status
-refused_log shape seen = opening_refused shape (outcome (Some shape) seen)
+-- Why a log of this shape can't be run on, if it can't: a page, another shape behind the header, or an entry is the first to be refused; then, where a run is to begin from the saved point, a field of that, or its position.
+abbrev pub opening_refused : Shape → Bool → List ℕ → Result Held OpenError → Option Status
+opening_refused shape from_point points (Ok held) = restart_refused (restart_in shape held.bodies from_point points)
+opening_refused shape from_point points (Err opening.Memory) = None
+opening_refused shape from_point points (Err opening.Device) = None
+opening_refused shape from_point points (Err (opening.BadPage bad)) = Some (status.Log (Page bad.page) bad.why)
+opening_refused shape from_point points (Err (opening.Config field log asked)) = Some (status.Config field log asked)
+opening_refused shape from_point points (Err opening.Unborn) = None
+
+-- so that a script of this shape has no run on devices with these bytes
+abbrev pub refused_log : Shape → Bool → Found → Option Status
+refused_log shape from_point on = opening_refused shape from_point on.points (outcome (Some shape) on.log)
 
 -- how many entries a log has that is opened
 abbrev pub opened_count : Result Held OpenError → ℕ
@@ -75,7 +92,7 @@ pub record HoldsEntries (shape : Shape) (entries : List EntryKind) (image : List
 
 -- ---- the run
 
--- The text tells these events: each may happen in its turn on the log that was found, none is a stop, and they lead to this state. The run is finished, serializable, and in the order of its sessions.
+-- These events may each happen in its turn on the log that was found, none is a stop, and they lead to this state. The run is finished, serializable, and in the order of its sessions, and these are its results.
 pub record TellsClients (script : Workload) (found : List EntryKind) (events : List Event) (end : State) (results : Results) : Type 0 where
   pub leads : run script (opening_of script found) events ≡ Some end
   pub calm : list_any is_stop events ≡ false
@@ -84,26 +101,42 @@ pub record TellsClients (script : Workload) (found : List EntryKind) (events : L
   pub sessions : IsSessionOrdered script found events
   pub results_are : results ≡ results_at script (ended_in script (opening_of script found) events) end
 
--- A run of a script on the log that a device with these bytes had. The device holds just the entries of the state to which it led, and so does each image that a crash now leaves. These are the acknowledged ones.
-pub record IsScriptRun (script : Workload) (tells : Bool) (seen : List ℕ) (now : Content) (acked : ℕ) (text : Text) : Type 0 where
-  pub found : List EntryKind
-  pub was_found : IsTrue tells → HasFound seen script.shape found
+-- The device holds the point of the whole log of these entries, whatever crashes come. It stands for the log, if the point from which the run began does.
+pub record IsSaved (shape : Shape) (found entries : List EntryKind) (start : Option Checkpoint) (now : Content) : Type 0 where
+  pub point : Checkpoint
+  pub whole : point.position ≡ length entries
+  pub held : HoldsPoint shape point now
+  pub stands : Belongs shape found start → IsPointOf shape entries point
+
+-- A run of a script on the entries that were found, from a saved point if there is one. The log's device holds just these entries then, and so does each image that a crash leaves; they are the acknowledged ones.
+-- Where it began from the start, or from a point that stands for the log that was found, the text is that of a run of the script's programs, which leads to a state with this log.
+pub record IsRunFrom (options : RunOptions) (script : Workload) (tells : Bool) (found : List EntryKind) (start : Option Checkpoint) (left : Left) (text : Text) : Type 0 where
+  pub entries : List EntryKind
+  pub begins : IsPrefix found entries
+  pub held : IsTrue tells → (image : List ℕ) → Image left.log image → HoldsEntries script.shape entries image
+  pub counted : left.acked ≡ length entries
+  pub saved : options.save ≡ true → IsTrue tells → IsSaved script.shape found entries start left.points
   pub events : List Event
-  pub end : State
   pub results : Results
-  pub is : TellsClients script found events end results
-  pub held : IsTrue tells → (image : List ℕ) → Image now image → HoldsEntries script.shape end.log image
-  pub counted : acked ≡ length end.log
+  pub told : Belongs script.shape found start → (end : State) × (end.log ≡ entries) × TellsClients script found events end results
   pub text_is : text ≡ trace_text events ++ report_text results
 
+-- and on devices, where they tell their bytes
+pub record IsScriptRun (options : RunOptions) (script : Workload) (on : Found) (left : Left) (text : Text) : Type 0 where
+  pub found : List EntryKind
+  pub was_found : IsTrue on.tells → HasFound on.log script.shape found
+  pub start : Option Checkpoint
+  pub starts : IsStart on.tells options.from_point script.shape on.points start
+  pub is : IsRunFrom options script on.tells found start left text
+
 -- and of the script that a source asks for
-pub record IsRunText (told : Option Text) (tells : Bool) (seen : List ℕ) (now : Content) (acked : ℕ) (text : Text) : Type 0 where
+pub record IsRunText (options : RunOptions) (told : Option Text) (on : Found) (left : Left) (text : Text) : Type 0 where
   pub bytes : Text
   pub are_of : AreOf told bytes
   pub input : Input
   pub asked : read_input bytes false ≡ Ok input
   pub script : IsScript input.script
-  pub run : IsScriptRun input.script tells seen now acked text
+  pub run : IsScriptRun options input.script on left text
 
 -- ---- why there is none
 
@@ -118,22 +151,33 @@ pub record IsAsked (told : Option Text) : Type 0 where
   pub input : Input
   pub asked : read_input bytes false ≡ Ok input
 
--- The log can't be run on by the script that a source asks for. All its entries are acknowledged, if it could be opened.
-pub record IsLogRefused (told : Option Text) (tells : Bool) (seen : List ℕ) (acked : ℕ) (why : Status) : Type 0 where
+-- The log, or its saved point, can't be run on by the script that a source asks for. All entries of the log are acknowledged, if it could be opened.
+pub record IsLogRefused (options : RunOptions) (told : Option Text) (on : Found) (acked : ℕ) (why : Status) : Type 0 where
   pub bytes : Text
   pub are_of : AreOf told bytes
   pub input : Input
   pub asked : read_input bytes false ≡ Ok input
-  pub refuses : IsTrue tells → refused_log input.script.shape seen ≡ Some why
-  pub counted : IsTrue tells → acked ≡ opened_count (outcome (Some input.script.shape) seen)
+  pub refuses : IsTrue on.tells → refused_log input.script.shape options.from_point on ≡ Some why
+  pub counted : IsTrue on.tells → acked ≡ opened_count (outcome (Some input.script.shape) on.log)
 
-abbrev pub IsRunFault : Option Text → ℕ → ℕ → Bool → List ℕ → ℕ → ℕ → ℕ → Status → Type 0
-IsRunFault told faults faults_now tells seen device device_now acked status =
-    IsFault (IsScriptRefused told) (IsLogRefused told tells seen acked) (Rose faults faults_now) (λ one. ((one ≡ which.Log) × IsAsked told) × Rose device device_now) status
+-- A device failed: that of the log, or that of the point where a run uses it.
+abbrev pub HasFailed : RunOptions → Counts → Which → Type 0
+HasFailed options counts which.Log = Rose counts.log counts.log_now
+HasFailed options counts which.Points = IsTrue (options.from_point || options.save) × Rose counts.points counts.points_now
+
+abbrev pub IsRunFault : RunOptions → Option Text → ℕ → ℕ → Found → Counts → ℕ → Status → Type 0
+IsRunFault options told faults faults_now on counts acked status =
+    IsFault (IsScriptRefused told) (IsLogRefused options told on acked) (Rose faults faults_now) (λ one. IsAsked told × HasFailed options counts one) status
+
+-- a run can begin: from the start, or from the saved point, if there is one, which is no further than the log
+pub record CanStart (options : RunOptions) (shape : Shape) (found : List EntryKind) (points : List ℕ) : Type 0 where
+  pub start : Option Checkpoint
+  pub read : as_point (asked_point options.from_point shape points) ≡ Ok start
+  pub within : not_ahead (length found) start ≡ Ok start
 
 -- the source asks for a script, and the log can be run on
-abbrev pub CanBeRun : Option Text → Bool → List ℕ → Type 0
-CanBeRun told tells seen = (bytes : Text) × (input : Input) × (told ≡ Some bytes) × (read_input bytes false ≡ Ok input) × IsTrue tells × ((found : List EntryKind) × HasFound seen input.script.shape found)
+abbrev pub CanBeRun : RunOptions → Option Text → Found → Type 0
+CanBeRun options told on = (bytes : Text) × (input : Input) × (told ≡ Some bytes) × (read_input bytes false ≡ Ok input) × IsTrue on.tells × ((found : List EntryKind) × HasFound on.log input.script.shape found × CanStart options input.script.shape found on.points)
 
 -- ---- what is left of the log
 
@@ -168,3 +212,30 @@ pub record IsRunOn {D : Type 0} (told : Option Text) (tells : Bool) (content : D
   pub left : IsTrue tells → ((acked ≡ 0) × (content old ≡ settled (content old).seen → LeavesOnly moment left_since old new (IsKept (content old).seen)))
       ⊎ ((shape : Shape) × AsksForShape told shape × (HoldsFound shape (content old).seen (content new) acked
       ⊎ ((found : List EntryKind) × HasFound (content old).seen shape found × HoldsAcked shape found (content new) (faults_of old) (faults_of new) cut_off acked)))
+
+-- ---- what is left of the saved point
+
+-- The point of a log of these entries is saved, or was about to be. Where the device is fit for that log, a crash at any moment leaves it fit, with this point, the one that stood there, or none. That is said where the point from which the run began stands for the log that was found.
+pub record IsSavingFrom {D : Type 0} (shape : Shape) (tells : Bool) (found : List EntryKind) (start : Option Checkpoint) (content : D → Content) (moment : D → ℕ) (left_since : D → ℕ → List ℕ → Type 0) (old new : D) (acked : ℕ) : Type 0 where
+  pub entries : List EntryKind
+  pub begins : IsPrefix found entries
+  pub counted : acked ≡ length entries
+  pub point : Checkpoint
+  pub any_moment : Belongs shape found start → IsTrue tells → content old ≡ settled (content old).seen → IsFit shape entries (content old).seen → LeavesOnly moment left_since old new (IsLeftBySave shape entries point (content old).seen)
+
+-- and that of the log that was found on the devices
+pub record IsSaving {D : Type 0} (options : RunOptions) (told : Option Text) (on : Found) (content : D → Content) (moment : D → ℕ) (left_since : D → ℕ → List ℕ → Type 0) (old new : D) (acked : ℕ) : Type 0 where
+  pub shape : Shape
+  pub asked : AsksForShape told shape
+  pub found : List EntryKind
+  pub was_found : IsTrue on.tells → HasFound on.log shape found
+  pub start : Option Checkpoint
+  pub starts : IsStart on.tells options.from_point shape on.points start
+  pub is : IsSavingFrom shape on.tells found start content moment left_since old new acked
+
+-- How the device of the point is left: as it was where the run neither begins from a point nor saves one; only read where it saves none, and where the answer is a refusal; and else only read, or with a point saved or about to be.
+pub record LeavesPoint {D : Type 0} (options : RunOptions) (content : D → Content) (moment : D → ℕ) (left_since : D → ℕ → List ℕ → Type 0) (faults_of : D → ℕ) (old new : D) (may_save : Bool) (saving : Type 0) : Type 0 where
+  pub later : faults_of old ≤ faults_of new
+  pub unused : options.from_point ≡ false → options.save ≡ false → new ≡ old
+  pub unsaved : (options.save && may_save) ≡ false → OnlyReads content moment left_since faults_of old new
+  pub left : OnlyReads content moment left_since faults_of old new ⊎ saving

@@ -1,78 +1,62 @@
-//! `run`: the clients of a script, beside each other over the log.
-ghost use Rattle.std.specs.Prelude.{◌≡◌, ◌≢◌, ◌≤◌, ◌⊎◌, ℕ, List, false, length, map, take, IsTrue, IfOk, IfErr, IfSome, IsErr, None, Ok, Err};
-ghost use Rattle.std.specs.List.{AllByRecursion};
-ghost use Rattle.hy_base.specs.Log.{IsLawful};
-ghost use Rattle.hy_base.specs.Shape.{IsGoodShape, IsWithin, whole_groups};
-ghost use Rattle.hy_rules.specs.EntryFormat.{entries_past, spelling};
-ghost use Rattle.hy_rules.specs.Rolling.{rolled_upto, Stands};
-ghost use Rattle.hy_rules.specs.Runs.{setting_of};
-ghost use Rattle.hy_check.specs.Listing.{IsSound};
-ghost use Rattle.hy_hub.specs.Outset.{IsOutset};
+//! `run`: the clients of a script, concurrently over the log.
+ghost use Rattle.std.specs.Prelude.{◌≡◌, ◌≢◌, ◌≤◌, ◌⊎◌, ℕ, List, true, false, length, IsTrue, IfOk, IfErr, IfSome, IsErr, OnOk, Option, None, Ok, Err};
+ghost use Rattle.std.specs.List.{All};
+ghost use Rattle.hy_base.specs.Faults.{Rose};
+ghost use Rattle.hy_base.specs.Shape.{IsWithin};
+ghost use Rattle.hy_rules.specs.Rolling.{Roll};
+ghost use Rattle.hy_restart.specs.Restart.{AreFoundIn, IsRestarted, IsStart, OnlyReads};
+ghost use Rattle.hy_restart.specs.Saving.{HoldsPoint, point_of};
+ghost use Rattle.hy_rules.specs.Checkpoint.{Checkpoint};
 ghost use Rattle.hy_disk.specs.Content.{Image};
 ghost use Rattle.hy_log.specs.View.{Holds};
+ghost use Rattle.std.specs.List.{Contains};
+ghost use Rattle.hy_run.specs.Devices.{counts_of, devices_of, found_on, left_on};
 ghost use Rattle.hy_run.specs.Obeying.{ends_early, ends_first};
 ghost use Rattle.hy_run.specs.Output.{kind_of, log_refused};
-ghost use Rattle.hy_run.specs.Running.{IsScriptRun};
-ghost use Rattle.hy_run.specs.RunningParts.{IsLeftOf, IsRanFault, IsRanText, IsScriptFault, IsScriptLeft, opening_status, servers_at, told_text};
+ghost use Rattle.hy_run.specs.Running.{IsScriptRun, LeavesPoint};
+ghost use Rattle.hy_run.specs.RunningParts.{IsLeftOf, IsOneSaved, IsRanFault, IsRanText, IsSaveFault, IsSavingPart, IsSavingRoller, IsSavingScript, IsScriptFault, IsScriptLeft, may_save, opened_as, opening_status, servers_at, told_text};
 
 use crate::inspect::Inspected;
 use crate::live::live_of;
-use crate::status::{Status, Which};
-use hy_base::{
-    Entry, Event, Field, Items, Pos, Replies, Results, Script, ServerRows, Shape, Shared,
-};
-use hy_check::entries_of;
+use crate::status::{RunOptions, Status, Which};
+use hy_base::{Event, Field, Items, Pos, Replies, Results, Script, ServerRows, Shape};
 use hy_clients::{Broken, Cause, Run, run_clients};
 use hy_codec::bodies_are_read;
 use hy_disk::Disk;
 use hy_log::{OpenError, PageLog, open_log};
 use hy_pipe::{Gate, Roller};
+use hy_restart::{
+    RestartError, Restarted, SaveError, a_roller_leaves_its_point, restart, save,
+};
 use hy_rules::LogPlace;
 use hy_text::{write_report, write_trace};
 use std::alloc::{AllocError, Global};
 use std::sync::Wait;
 use std::thread::Threads;
 
-// The entries, each to be shared.
-fn shared(alloc: Global, entries: Vec<Entry>) -> Result<Vec<Shared<Entry>>, AllocError>
-    ensures { IfOk result (λ all. all.items ≡ entries.items) }
-{
-    let mut all = Vec::new(alloc);
-    for entry in entries {
-        all.push(Shared::new(alloc, entry)?)?;
+impl From<RestartError> for Status {
+    ghost use Rattle.hy_run.specs.RunningParts.{restart_fault};
+
+    ghost from_gives = { λ error status. status ≡ restart_fault error };
+
+    fn from(error: RestartError) -> Status {
+        match error {
+            RestartError::Memory => Status::Memory,
+            RestartError::LogDevice => Status::Device { which: Which::Log },
+            RestartError::PointsDevice => Status::Device {
+                which: Which::Points,
+            },
+            RestartError::BadEntry { pos, bad } => Status::Log {
+                place: LogPlace::Entry(pos),
+                why: bad.why,
+            },
+            RestartError::BadPoint(bad) => Status::Point {
+                place: bad.place as u64,
+                why: bad.why,
+            },
+            RestartError::Ahead { point, log } => Status::Ahead { point, log },
+        }
     }
-    Ok(all)
-}
-
-// The entries of whole groups, lent.
-fn whole_part(shape: Shape, entries: &[Shared<Entry>]) -> &[Shared<Entry>]
-    requires { 1 ≤ shape.group }
-    ensures { result.now ≡ take (whole_groups shape (length entries.now)) entries.now }
-{
-    let whole = entries.len() - entries.len() % usize::from(shape.group);
-    &entries[..whole]
-}
-
-// The roller of the whole groups of a log.
-#[tactic(auto, using(crate::proofs::Starting::whole_front, crate::proofs::Starting::front_fits, crate::proofs::Starting::at_whole, crate::proofs::Starting::stands_whole))]
-fn rolled<R: Threads + Sync, G: Gate + Sync>(
-    rt: &R,
-    alloc: Global,
-    shape: Shape,
-    entries: &[Shared<Entry>],
-    threads: usize,
-    gate: &G,
-) -> Result<Roller, AllocError>
-    requires good { IsGoodShape shape }
-    requires lawful { IsLawful shape entries.now }
-    requires threads { IsWithin 1 16 threads }
-    ensures shape { IfOk result (λ r. r.shape ≡ shape) }
-    ensures at { IfOk result (λ r. rolled_upto r ≡ whole_groups shape (length entries.now)) }
-    ensures stands { IfOk result (λ r. Stands (take (rolled_upto r) entries.now) r) }
-{
-    let new = Roller::new(alloc, shape)?;
-    let front = whole_part(shape, entries);
-    new.roll(rt, alloc, front, threads, gate)
 }
 
 // The boards of the servers, with the rows there that have a value.
@@ -148,10 +132,84 @@ fn closed<D: Disk>(log: PageLog<D>, status: Status) -> Inspected<D>
     }
 }
 
-// What is told of a run.
-fn ran<D: Disk>(alloc: Global, run: Run<D>) -> Inspected<D>
+// A points device on which no call is made.
+fn unused<D: Disk>(points: &D)
+    ensures { OnlyReads D.content D.moment D.left_since D.faults_of points.now points.now }
+{
+    let _ = points;
+}
+
+// Saves the point of a roller, where that is asked for.
+fn keep_point<D: Disk>(
+    alloc: Global,
+    shape: Shape,
+    options: RunOptions,
+    roller: &Roller,
+    points: &mut D,
+) -> Result<(), Status>
+    requires { shape ≡ roller.now.shape }
+    ensures saved { options.save ≡ true → IsTrue D.tells → OnOk result (HoldsPoint shape (point_of roller.now) (D.content points.new)) }
+    ensures refused { IfErr result (IsSaveFault options (D.faults_of points.old) (D.faults_of points.new)) }
+    ensures left { OnlyReads D.content D.moment D.left_since D.faults_of points.old points.new ⊎ IsSavingRoller D.tells shape roller.now D.content D.moment D.left_since points.old points.new }
+    ensures later { D.faults_of points.old ≤ D.faults_of points.new }
+    ensures unused { options.save ≡ false → points.new ≡ points.old }
+{
+    if !options.save {
+        unused(points);
+        return Ok(());
+    }
+    match save(alloc, shape, roller, points) {
+        Ok(()) => Ok(()),
+        Err(SaveError::Memory) => Err(Status::Memory),
+        Err(SaveError::Device) => Err(Status::Device {
+            which: Which::Points,
+        }),
+    }
+}
+
+// The text of a finished run, once its point is saved where that is asked for: that of the first server.
+fn told<D: Disk>(
+    alloc: Global,
+    shape: Shape,
+    options: RunOptions,
+    events: &[Event],
+    replies: Items<Replies>,
+    boards: &[Roller],
+    points: &mut D,
+) -> Result<Vec<u8>, Status>
+    requires some { 1 ≤ length boards.now }
+    requires shapes { All (λ r. r.shape ≡ shape) boards.now }
+    ensures text { IfOk result (λ text. text.items ≡ told_text events.now replies boards.now) }
+    ensures saved { options.save ≡ true → IfOk result (λ text. IsOneSaved D.tells shape boards.now (D.content points.new)) }
+    ensures refused { IfErr result (IsSaveFault options (D.faults_of points.old) (D.faults_of points.new)) }
+    ensures left { OnlyReads D.content D.moment D.left_since D.faults_of points.old points.new ⊎ ((r : Roll) × Contains boards.now r × IsSavingRoller D.tells shape r D.content D.moment D.left_since points.old points.new) }
+    ensures later { D.faults_of points.old ≤ D.faults_of points.new }
+    ensures unused { options.save ≡ false → points.new ≡ points.old }
+{
+    let Ok(text) = text_of(alloc, events, replies, boards) else {
+        unused(points);
+        return Err(Status::Memory);
+    };
+    keep_point(alloc, shape, options, &boards[0], points)?;
+    Ok(text)
+}
+
+// What is told of a finished run.
+fn ran<D: Disk>(
+    alloc: Global,
+    shape: Shape,
+    options: RunOptions,
+    run: Run<D>,
+    points: &mut D,
+) -> Inspected<D>
+    requires some { 1 ≤ length run.boards }
+    requires shapes { All (λ r. r.shape ≡ shape) run.boards }
     ensures text { IfOk result.text (λ text. text.items ≡ told_text run.events run.replies run.boards) }
-    ensures memory { IfErr result.text (λ status. status ≡ Status.Memory) }
+    ensures saved { options.save ≡ true → IfOk result.text (λ text. IsOneSaved D.tells shape run.boards (D.content points.new)) }
+    ensures refused { IfErr result.text (IsSaveFault options (D.faults_of points.old) (D.faults_of points.new)) }
+    ensures left { OnlyReads D.content D.moment D.left_since D.faults_of points.old points.new ⊎ ((r : Roll) × Contains run.boards r × IsSavingRoller D.tells shape r D.content D.moment D.left_since points.old points.new) }
+    ensures later { D.faults_of points.old ≤ D.faults_of points.new }
+    ensures unused { options.save ≡ false → points.new ≡ points.old }
     ensures acked { result.acked ≡ length run.log.bodies }
     ensures disk { result.log ≡ run.log.disk }
     ensures held { IsTrue D.tells → run.log.stopped ≡ None → (image : List ℕ) → Image (D.content result.log) image → Holds run.log.shape run.log.bodies image }
@@ -162,10 +220,15 @@ fn ran<D: Disk>(alloc: Global, run: Run<D>) -> Inspected<D>
         replies,
         boards,
     } = run;
-    let text = match text_of(alloc, events.as_slice(), replies, boards.as_slice()) {
-        Ok(text) => Ok(text),
-        Err(_) => Err(Status::Memory),
-    };
+    let text = told(
+        alloc,
+        shape,
+        options,
+        events.as_slice(),
+        replies,
+        boards.as_slice(),
+        points,
+    );
     Inspected {
         text,
         acked: log.len(),
@@ -187,84 +250,39 @@ fn cut<D: Disk>(broken: Broken<D>) -> Inspected<D>
     closed(broken.log, status)
 }
 
-// What a log holds that the clients start from.
-fn start<R: Threads + Sync, G: Gate + Sync>(
-    rt: &R,
-    alloc: Global,
-    shape: Shape,
-    entries: Vec<Entry>,
-    threads: usize,
-    gate: &G,
-) -> Result<(Vec<Shared<Entry>>, Roller), AllocError>
-    requires good { IsGoodShape shape }
-    requires lawful { IsLawful shape entries.items }
-    requires threads { IsWithin 1 16 threads }
-    ensures entries { IfOk result (λ r. r.0.items ≡ entries.items) }
-    ensures shape { IfOk result (λ r. r.1.shape ≡ shape) }
-    ensures at { IfOk result (λ r. rolled_upto r.1 ≡ whole_groups shape (length entries.items)) }
-    ensures stands { IfOk result (λ r. Stands (take (rolled_upto r.1) entries.items) r.1) }
-{
-    let entries = shared(alloc, entries)?;
-    let roller = rolled(rt, alloc, shape, &entries, threads, gate)?;
-    Ok((entries, roller))
-}
-
-// Runs a script's clients on a log of these entries, which are rolled.
+// Runs a script's clients on a log that goes on.
 fn run_from<R: Threads + Wait + Sync, D: Disk + Send, G: Gate + Sync>(
     rt: &R,
     alloc: Global,
     script: &Script,
+    options: RunOptions,
     log: PageLog<D>,
-    entries: Vec<Shared<Entry>>,
-    roller: Roller,
-    threads: usize,
-    gate: &G,
-) -> Inspected<D>
-    requires outset { IsOutset D.tells log entries.items roller script.now.servers (setting_of script.now).homes }
-    requires shape { roller.shape ≡ script.now.shape }
-    requires stands { Stands (take (rolled_upto roller) entries.items) roller }
-    requires read { IsTrue D.tells → entries_past script.now.shape 0 log.bodies ≡ Ok entries.items }
-    requires threads { IsWithin 1 16 threads }
-    ensures text { IfOk result.text (λ text. IsRanText D.tells script.now log.bodies (D.content result.log) result.acked text.items) }
-    ensures refused { IfErr result.text (IsRanFault D.tells script.now.shape log.shape log.bodies (D.faults_of log.disk) (D.faults_of result.log) result.acked) }
-    ensures left { IsTrue D.tells → IsLeftOf log.shape log.bodies (D.content result.log) (D.faults_of log.disk) (D.faults_of result.log) (ends_early result.text) result.acked }
-    ensures later { D.faults_of log.disk ≤ D.faults_of result.log }
-{
-    bodies_are_read();
-    let _ = script.shape();
-    match run_clients(rt, alloc, script, log, entries, roller, threads, gate) {
-        Ok(run) => ran(alloc, run),
-        Err(broken) => cut(broken),
-    }
-}
-
-// Runs a script's clients on a log of these entries.
-fn run_after<R: Threads + Wait + Sync, D: Disk + Send, G: Gate + Sync>(
-    rt: &R,
-    alloc: Global,
-    script: &Script,
-    log: PageLog<D>,
-    entries: Vec<Entry>,
+    restarted: Restarted,
+    points: &mut D,
     threads: usize,
     gate: &G,
 ) -> Inspected<D>
     requires running { log.stopped ≡ None }
     requires shape { log.shape ≡ script.now.shape }
-    requires read { IsTrue D.tells → (entries_past script.now.shape 0 log.bodies ≡ Ok entries.items) × (log.bodies ≡ map spelling entries.items) }
-    requires count { length entries.items ≡ length log.bodies }
-    requires lawful { IsLawful script.now.shape entries.items }
-    requires sound { AllByRecursion IsSound entries.items }
+    requires found { AreFoundIn D.tells script.now.shape log.bodies restarted.entries.items }
+    requires roller { (start : Option Checkpoint) × IsStart D.tells options.from_point script.now.shape (D.content points.old).seen start × IsRestarted script.now.shape restarted.entries.items start restarted.roller }
     requires threads { IsWithin 1 16 threads }
-    ensures text { IfOk result.text (λ text. IsRanText D.tells script.now log.bodies (D.content result.log) result.acked text.items) }
-    ensures refused { IfErr result.text (IsRanFault D.tells script.now.shape log.shape log.bodies (D.faults_of log.disk) (D.faults_of result.log) result.acked) }
+    ensures text { IfOk result.text (λ text. IsRanText options script.now (opened_as D.tells D.content log points.old) (left_on D.content (devices_of result.log points.new) result.acked) text.items) }
+    ensures refused { IfErr result.text (IsRanFault options script.now.shape (opened_as D.tells D.content log points.old) (counts_of D.faults_of (devices_of log.disk points.old) (devices_of result.log points.new)) result.acked) }
     ensures left { IsTrue D.tells → IsLeftOf log.shape log.bodies (D.content result.log) (D.faults_of log.disk) (D.faults_of result.log) (ends_early result.text) result.acked }
+    ensures points { LeavesPoint options D.content D.moment D.left_since D.faults_of points.old points.new (may_save result.text) (IsSavingPart options script.now.shape (opened_as D.tells D.content log points.old) D.content D.moment D.left_since points.old points.new result.acked) }
     ensures later { D.faults_of log.disk ≤ D.faults_of result.log }
 {
-    match start(rt, alloc, script.shape(), entries, threads, gate) {
-        Ok((entries, roller)) => {
-            run_from(rt, alloc, script, log, entries, roller, threads, gate)
+    bodies_are_read();
+    a_roller_leaves_its_point();
+    let shape = script.shape();
+    let Restarted { roller, entries } = restarted;
+    match run_clients(rt, alloc, script, log, entries, roller, threads, gate) {
+        Ok(run) => ran(alloc, shape, options, run, points),
+        Err(broken) => {
+            unused(points);
+            cut(broken)
         }
-        Err(_) => closed(log, Status::Memory),
     }
 }
 
@@ -273,20 +291,25 @@ fn run_through<R: Threads + Wait + Sync, D: Disk + Send, G: Gate + Sync>(
     rt: &R,
     alloc: Global,
     script: &Script,
+    options: RunOptions,
     mut log: PageLog<D>,
+    points: &mut D,
     threads: usize,
     gate: &G,
 ) -> Inspected<D>
     requires running { log.stopped ≡ None }
     requires shape { log.shape ≡ script.now.shape }
     requires threads { IsWithin 1 16 threads }
-    ensures text { IfOk result.text (λ text. IsRanText D.tells script.now log.bodies (D.content result.log) result.acked text.items) }
-    ensures refused { IfErr result.text (IsRanFault D.tells script.now.shape log.shape log.bodies (D.faults_of log.disk) (D.faults_of result.log) result.acked) }
+    ensures text { IfOk result.text (λ text. IsRanText options script.now (opened_as D.tells D.content log points.old) (left_on D.content (devices_of result.log points.new) result.acked) text.items) }
+    ensures refused { IfErr result.text (IsRanFault options script.now.shape (opened_as D.tells D.content log points.old) (counts_of D.faults_of (devices_of log.disk points.old) (devices_of result.log points.new)) result.acked) }
     ensures left { IsTrue D.tells → IsLeftOf log.shape log.bodies (D.content result.log) (D.faults_of log.disk) (D.faults_of result.log) (ends_early result.text) result.acked }
+    ensures points { LeavesPoint options D.content D.moment D.left_since D.faults_of points.old points.new (may_save result.text) (IsSavingPart options script.now.shape (opened_as D.tells D.content log points.old) D.content D.moment D.left_since points.old points.new result.acked) }
     ensures later { D.faults_of log.disk ≤ D.faults_of result.log }
 {
-    match entries_of(alloc, &mut log) {
-        Ok(entries) => run_after(rt, alloc, script, log, entries, threads, gate),
+    match restart(rt, alloc, &mut log, points, options.from_point, threads, gate) {
+        Ok(restarted) => run_from(
+            rt, alloc, script, options, log, restarted, points, threads, gate,
+        ),
         Err(error) => closed(log, error.into()),
     }
 }
@@ -296,20 +319,26 @@ fn run_on<R: Threads + Wait + Sync, D: Disk + Send, G: Gate + Sync>(
     rt: &R,
     alloc: Global,
     script: &Script,
+    options: RunOptions,
     log: PageLog<D>,
+    points: &mut D,
     threads: usize,
     gate: &G,
 ) -> Inspected<D>
     requires running { log.stopped ≡ None }
     requires threads { IsWithin 1 16 threads }
-    ensures text { IfOk result.text (λ text. IsRanText D.tells script.now log.bodies (D.content result.log) result.acked text.items) }
-    ensures refused { IfErr result.text (IsRanFault D.tells script.now.shape log.shape log.bodies (D.faults_of log.disk) (D.faults_of result.log) result.acked) }
+    ensures text { IfOk result.text (λ text. IsRanText options script.now (opened_as D.tells D.content log points.old) (left_on D.content (devices_of result.log points.new) result.acked) text.items) }
+    ensures refused { IfErr result.text (IsRanFault options script.now.shape (opened_as D.tells D.content log points.old) (counts_of D.faults_of (devices_of log.disk points.old) (devices_of result.log points.new)) result.acked) }
     ensures left { IsTrue D.tells → IsLeftOf log.shape log.bodies (D.content result.log) (D.faults_of log.disk) (D.faults_of result.log) (ends_early result.text) result.acked }
+    ensures points { LeavesPoint options D.content D.moment D.left_since D.faults_of points.old points.new (may_save result.text) (IsSavingPart options script.now.shape (opened_as D.tells D.content log points.old) D.content D.moment D.left_since points.old points.new result.acked) }
     ensures later { D.faults_of log.disk ≤ D.faults_of result.log }
 {
     match differing(log.shape(), script.shape()) {
-        None => run_through(rt, alloc, script, log, threads, gate),
-        Some(status) => closed(log, status),
+        None => run_through(rt, alloc, script, options, log, points, threads, gate),
+        Some(status) => {
+            unused(points);
+            closed(log, status)
+        }
     }
 }
 
@@ -335,22 +364,28 @@ pub fn run_script<R: Threads + Wait + Sync, D: Disk + Send, G: Gate + Sync>(
     rt: &R,
     alloc: Global,
     script: &Script,
+    options: RunOptions,
     log: D,
+    points: &mut D,
     threads: usize,
     gate: &G,
 ) -> Inspected<D>
     requires threads { IsWithin 1 16 threads }
-    ensures text { IfOk result.text (λ text. IsScriptRun script.now D.tells (D.content log).seen (D.content result.log) result.acked text.items) }
-    ensures refused { IfErr result.text (IsScriptFault D.tells script.now.shape (D.content log).seen (D.faults_of log) (D.faults_of result.log) result.acked) }
+    ensures text { IfOk result.text (λ text. IsScriptRun options script.now (found_on D.tells D.content (devices_of log points.old)) (left_on D.content (devices_of result.log points.new) result.acked) text.items) }
+    ensures refused { IfErr result.text (IsScriptFault options script.now.shape (found_on D.tells D.content (devices_of log points.old)) (counts_of D.faults_of (devices_of log points.old) (devices_of result.log points.new)) result.acked) }
     ensures reached { ends_first result.text ≡ false }
     ensures left { IsScriptLeft script.now.shape D.tells D.content D.moment D.left_since D.faults_of log result.log (ends_early result.text) result.acked }
+    ensures points { LeavesPoint options D.content D.moment D.left_since D.faults_of points.old points.new (may_save result.text) (IsSavingScript options script.now.shape (found_on D.tells D.content (devices_of log points.old)) D.content D.moment D.left_since points.old points.new result.acked) }
 {
     match open_log(alloc, log, Some(script.shape())) {
-        Ok(opened) => run_on(rt, alloc, script, opened, threads, gate),
-        Err(refused) => Inspected {
-            text: Err(unopened(refused.error)),
-            log: refused.disk,
-            acked: 0,
-        },
+        Ok(opened) => run_on(rt, alloc, script, options, opened, points, threads, gate),
+        Err(refused) => {
+            unused(points);
+            Inspected {
+                text: Err(unopened(refused.error)),
+                log: refused.disk,
+                acked: 0,
+            }
+        }
     }
 }

@@ -8,5 +8,7 @@
 mod log_texts;
 mod texts;
 
-pub use log_texts::{config_line, device_line, entry_line, page_line, write_check, write_dump};
+pub use log_texts::{
+    ahead_line, config_line, device_line, entry_line, page_line, point_line, write_check, write_dump,
+};
 pub use texts::{memory_line, script_line, source_line, usage_line, write_report, write_trace};
