@@ -85,10 +85,11 @@ pub record IsRestarted (s : Shape) (entries : List EntryKind) (point : Option Ch
   pub at_is : rolled_upto r ≡ whole_groups s (length entries)
   pub stands : StandsIfAny s entries point → Stands (whole_front s entries) r
 
--- The point to begin from: none, or one that the points device holds; which, where the device tells its bytes.
-pub record IsStart (tells from_point : Bool) (s : Shape) (bytes : List ℕ) (point : Option Checkpoint) : Type 0 where
+-- The point to begin from on a log of these entries: none, or one that the points device holds, and that is no further than the log; which, where the device tells its bytes.
+pub record IsStart (tells from_point : Bool) (s : Shape) (bytes : List ℕ) (entries : List EntryKind) (point : Option Checkpoint) : Type 0 where
   pub unasked : from_point ≡ false → point ≡ None
   pub held : IsTrue tells → as_point (asked_point from_point s bytes) ≡ Ok point
+  pub within : not_ahead (length entries) point ≡ Ok point
 
 -- the entries of a log with these bodies, all lawful, and each read again from its spelling
 pub record AreFoundIn (tells : Bool) (s : Shape) (bodies : List (List ℕ)) (entries : List EntryKind) : Type 0 where

@@ -226,7 +226,7 @@ pub fn restart<R: Threads + Sync, D: Disk, G: Gate + Sync>(
     requires threads { IsWithin 1 16 threads }
     ensures read { IsTrue D.tells → Restarts (λ r. r.entries.items) result (entries_for (restart_in log.old.shape log.old.bodies from_point (D.content points.old).seen)) }
     ensures found { IfOk result (λ r. AreFoundIn D.tells log.old.shape log.old.bodies r.entries.items) }
-    ensures roller { IfOk result (λ r. (point : Option Checkpoint) × IsStart D.tells from_point log.old.shape (D.content points.old).seen point × IsRestarted log.old.shape r.entries.items point r.roller) }
+    ensures roller { IfOk result (λ r. (point : Option Checkpoint) × IsStart D.tells from_point log.old.shape (D.content points.old).seen r.entries.items point × IsRestarted log.old.shape r.entries.items point r.roller) }
     ensures same { IsSameLog log.old log.new }
     ensures log_look { OnlyReads D.content D.moment D.left_since D.faults_of log.old.disk log.new.disk }
     ensures points_look { OnlyReads D.content D.moment D.left_since D.faults_of points.old points.new }

@@ -32,7 +32,7 @@ use Rattle.hy_log.specs.View.{Holds}
 use Rattle.hy_hub.specs.Trace.{is_stop}
 use Rattle.hy_restart.specs.declared.error.RestartError.{RestartError}
 use Rattle.hy_restart.specs.declared.error.RestartError.TheVariants as restarting
-use Rattle.hy_restart.specs.Restart.{IsStart, OnlyReads, StandsIfAny, as_point, asked_point, not_ahead, restart_in}
+use Rattle.hy_restart.specs.Restart.{IsStart, OnlyReads, StandsIfAny, restart_in}
 use Rattle.hy_restart.specs.Saving.{HoldsPoint}
 use Rattle.hy_script.specs.declared.why.Why.{Why}
 use Rattle.hy_input.specs.Source.{read_input}
@@ -126,7 +126,7 @@ pub record IsScriptRun (options : RunOptions) (script : Workload) (on : Found) (
   pub found : List EntryKind
   pub was_found : IsTrue on.tells → HasFound on.log script.shape found
   pub start : Option Checkpoint
-  pub starts : IsStart on.tells options.from_point script.shape on.points start
+  pub starts : IsStart on.tells options.from_point script.shape on.points found start
   pub is : IsRunFrom options script on.tells found start left text
 
 -- and of the script that a source asks for
@@ -169,15 +169,9 @@ abbrev pub IsRunFault : RunOptions → Option Text → ℕ → ℕ → Found →
 IsRunFault options told faults faults_now on counts acked status =
     IsFault (IsScriptRefused told) (IsLogRefused options told on acked) (Rose faults faults_now) (λ one. IsAsked told × HasFailed options counts one) status
 
--- a run can begin: from the start, or from the saved point, if there is one, which is no further than the log
-pub record CanStart (options : RunOptions) (shape : Shape) (found : List EntryKind) (points : List ℕ) : Type 0 where
-  pub start : Option Checkpoint
-  pub read : as_point (asked_point options.from_point shape points) ≡ Ok start
-  pub within : not_ahead (length found) start ≡ Ok start
-
--- the source asks for a script, and the log can be run on
+-- the source asks for a script, and the log can be run on, from the saved point where that is asked for, if there is one
 abbrev pub CanBeRun : RunOptions → Option Text → Found → Type 0
-CanBeRun options told on = (bytes : Text) × (input : Input) × (told ≡ Some bytes) × (read_input bytes false ≡ Ok input) × IsTrue on.tells × ((found : List EntryKind) × HasFound on.log input.script.shape found × CanStart options input.script.shape found on.points)
+CanBeRun options told on = (bytes : Text) × (input : Input) × (told ≡ Some bytes) × (read_input bytes false ≡ Ok input) × IsTrue on.tells × ((found : List EntryKind) × HasFound on.log input.script.shape found × ((start : Option Checkpoint) × IsStart true options.from_point input.script.shape on.points found start))
 
 -- ---- what is left of the log
 
@@ -230,7 +224,7 @@ pub record IsSaving {D : Type 0} (options : RunOptions) (told : Option Text) (on
   pub found : List EntryKind
   pub was_found : IsTrue on.tells → HasFound on.log shape found
   pub start : Option Checkpoint
-  pub starts : IsStart on.tells options.from_point shape on.points start
+  pub starts : IsStart on.tells options.from_point shape on.points found start
   pub is : IsSavingFrom shape on.tells found start content moment left_since old new acked
 
 -- How the device of the point is left: as it was where the run neither begins from a point nor saves one; only read where it saves none, and where the answer is a refusal; and else only read, or with a point saved or about to be.

@@ -79,7 +79,7 @@ pub record IsRanText (options : RunOptions) (script : Workload) (on : Opened) (l
   pub found : List EntryKind
   pub was_found : IsTrue on.tells → entries_past script.shape 0 on.bodies ≡ Ok found
   pub start : Option Checkpoint
-  pub starts : IsStart on.tells options.from_point script.shape on.points start
+  pub starts : IsStart on.tells options.from_point script.shape on.points found start
   pub is : IsRunFrom options script on.tells found start left text
 
 -- while the point of a roller is saved: of what a crash may leave then, of a device that is fit for a log for which the roller stands
@@ -138,7 +138,7 @@ pub record IsSavingPart {D : Type 0} (options : RunOptions) (shape : Shape) (on 
   pub found : List EntryKind
   pub was_found : IsTrue on.tells → entries_past shape 0 on.bodies ≡ Ok found
   pub start : Option Checkpoint
-  pub starts : IsStart on.tells options.from_point shape on.points start
+  pub starts : IsStart on.tells options.from_point shape on.points found start
   pub is : IsSavingFrom shape on.tells found start content moment left_since old new acked
 
 -- and that of the log that a script finds on its devices
@@ -146,7 +146,7 @@ pub record IsSavingScript {D : Type 0} (options : RunOptions) (shape : Shape) (o
   pub found : List EntryKind
   pub was_found : IsTrue on.tells → HasFound on.log shape found
   pub start : Option Checkpoint
-  pub starts : IsStart on.tells options.from_point shape on.points start
+  pub starts : IsStart on.tells options.from_point shape on.points found start
   pub is : IsSavingFrom shape on.tells found start content moment left_since old new acked
 
 -- the answer may come after a point was saved, or was about to be

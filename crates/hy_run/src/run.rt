@@ -265,7 +265,7 @@ fn run_from<R: Threads + Wait + Sync, D: Disk + Send, G: Gate + Sync>(
     requires running { log.stopped ≡ None }
     requires shape { log.shape ≡ script.now.shape }
     requires found { AreFoundIn D.tells script.now.shape log.bodies restarted.entries.items }
-    requires roller { (start : Option Checkpoint) × IsStart D.tells options.from_point script.now.shape (D.content points.old).seen start × IsRestarted script.now.shape restarted.entries.items start restarted.roller }
+    requires roller { (start : Option Checkpoint) × IsStart D.tells options.from_point script.now.shape (D.content points.old).seen restarted.entries.items start × IsRestarted script.now.shape restarted.entries.items start restarted.roller }
     requires threads { IsWithin 1 16 threads }
     ensures text { IfOk result.text (λ text. IsRanText options script.now (opened_as D.tells D.content log points.old) (left_on D.content (devices_of result.log points.new) result.acked) text.items) }
     ensures refused { IfErr result.text (IsRanFault options script.now.shape (opened_as D.tells D.content log points.old) (counts_of D.faults_of (devices_of log.disk points.old) (devices_of result.log points.new)) result.acked) }
