@@ -1,5 +1,5 @@
 //! Restarting: a roller of the log's whole groups, from a point or from the start.
-ghost use Rattle.std.specs.Prelude.{◌≡◌, ◌+◌, ◌-◌, ◌%◌, ◌≤◌, ◌<◌, false, Option, length, drop, IsTrue, IfOk, IfErr, IfSome, Ok, Err, None, Some};
+ghost use Rattle.std.specs.Prelude.{◌≡◌, ◌+◌, ◌-◌, ◌%◌, ◌≤◌, ◌<◌, true, false, Option, length, drop, IsTrue, IfOk, IfErr, IfSome, Ok, Err, None, Some};
 ghost use Rattle.hy_base.specs.Faults.{Rose};
 ghost use Rattle.hy_base.specs.Log.{IsLawful};
 ghost use Rattle.hy_base.specs.Shape.{IsGoodShape, IsWithin, whole_groups};
@@ -169,7 +169,7 @@ fn saved_point<D: Disk>(
     ensures valid { IfOk result (λ point. IfSome point (λ c. (c.shape ≡ shape) × IsCheckpoint c)) }
     ensures unasked { from_point ≡ false → (points.new ≡ points.old) × (result ≡ Ok None) }
     ensures look { OnlyReads D.content D.moment D.left_since D.faults_of points.old points.new }
-    ensures cause { result ≡ Err restarting.PointsDevice → Rose (D.faults_of points.old) (D.faults_of points.new) }
+    ensures cause { result ≡ Err restarting.PointsDevice → (from_point ≡ true) × Rose (D.faults_of points.old) (D.faults_of points.new) }
     ensures no_log { result ≡ Err restarting.LogDevice → ⊥ }
 {
     if from_point {
@@ -232,7 +232,7 @@ pub fn restart<R: Threads + Sync, D: Disk, G: Gate + Sync>(
     ensures points_look { OnlyReads D.content D.moment D.left_since D.faults_of points.old points.new }
     ensures unasked { from_point ≡ false → points.new ≡ points.old }
     ensures log_cause { result ≡ Err restarting.LogDevice → Rose (D.faults_of log.old.disk) (D.faults_of log.new.disk) }
-    ensures points_cause { result ≡ Err restarting.PointsDevice → Rose (D.faults_of points.old) (D.faults_of points.new) }
+    ensures points_cause { result ≡ Err restarting.PointsDevice → (from_point ≡ true) × Rose (D.faults_of points.old) (D.faults_of points.new) }
 {
     let entries = entries_in(alloc, log)?;
     let shape = log.shape();

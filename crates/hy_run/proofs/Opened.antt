@@ -18,14 +18,17 @@ use Rattle.hy_log.specs.declared.error.OpenError.TheVariants as opening
 use Rattle.hy_log.specs.Kept.{IsKept}
 use Rattle.hy_log.specs.Opening.{behind_header, born_with, config_fault, outcome, told_by, unless, Refuses as OpenRefuses}
 use Rattle.hy_log.specs.View.{Holds}
-use Rattle.hy_run.specs.Running.{HasFound, HoldsAcked, HoldsFound, IsScriptRun, entries_refused, opened_count, refused_log, opening_refused}
-use Rattle.hy_run.specs.RunningParts.{IsLeftOf, IsRanFault, IsRanText, IsScriptFault, IsScriptLeft, opening_status}
+use Rattle.hy_restart.specs.Restart.{restart_in}
+use Rattle.hy_run.specs.Devices.{Counts, Found, Left}
+use Rattle.hy_run.specs.Running.{HasFailed, HasFound, HoldsAcked, HoldsFound, IsScriptRun, LeavesPoint, opened_count, opening_refused, refused_log, restart_refused}
+use Rattle.hy_run.specs.RunningParts.{IsLeftOf, IsRanFault, IsRanText, IsSavingPart, IsSavingScript, IsScriptFault, IsScriptLeft, Opened, opening_status}
+use Rattle.hy_run.specs.declared.status.RunOptions.{RunOptions}
 use Rattle.hy_run.specs.declared.status.Status.{Status}
 use Rattle.hy_run.specs.declared.status.Status.TheVariants as status
-use Rattle.hy_run.specs.declared.status.Which.TheVariants as which
 use Rattle.hy_run.proofs.Inspecting.{told_ok, unborn_log}
 use Rattle.hy_run.proofs.ByKind.{fault_by}
 use Rattle.hy_run.proofs.Leaving.{left_from}
+use Rattle.hy_run.proofs.Restarted.{IsLaterThan, failed_since}
 
 -- a log was there, or an unborn device got one
 abbrev pub WasThere : List ℕ → Shape → Held → Type 0
@@ -56,54 +59,63 @@ had_bodies : (seen : List ℕ) (s shape : Shape) (bodies : List (List ℕ)) → 
 had_bodies seen s shape bodies same (inl there) = inl there
 had_bodies seen s shape bodies same (inr unborn) = inr (unborn.0, ap (λ (h : Held). h.bodies) unborn.1)
 
-module _ (tells : Bool) (script : Workload) (seen : List ℕ) (s : Shape) (bodies : List (List ℕ)) (opens : IsTrue tells → outcome (Some script.shape) seen ≡ Ok (record { shape = Some s; bodies = bodies })) (same : IsTrue tells → s ≡ script.shape) where
-  pub opened_run : (now : Content) (acked : ℕ) (text : Text) → IsRanText tells script bodies now acked text → IsScriptRun script tells seen now acked text
-  opened_run now acked text r = record {
-    found = r.found;
-    was_found = λ told. has_found seen s script.shape bodies r.found (same told) (was_there seen script.shape _ (opens told)) (r.was_found told);
-    events = r.events;
-    end = r.end;
-    results = r.results;
-    is = r.is;
-    held = r.held;
-    counted = r.counted;
-    text_is = r.text_is;
+module _ (script : Workload) (on : Found) (s : Shape) (bodies : List (List ℕ)) (opens : IsTrue on.tells → outcome (Some script.shape) on.log ≡ Ok (record { shape = Some s; bodies = bodies })) (same : IsTrue on.tells → s ≡ script.shape) where
+  abbrev part : Opened
+  part = record { tells = on.tells; shape = s; bodies = bodies; points = on.points }
+
+  found_by : (found : List EntryKind) → (IsTrue on.tells → entries_past script.shape 0 bodies ≡ Ok found) → IsTrue on.tells → HasFound on.log script.shape found
+  found_by found read knows = has_found on.log s script.shape bodies found (same knows) (was_there on.log script.shape _ (opens knows)) (read knows)
+
+  pub opened_run : (options : RunOptions) (left : Left) (text : Text) → IsRanText options script part left text → IsScriptRun options script on left text
+  opened_run options left text r = record { found = r.found; was_found = found_by r.found r.was_found; start = r.start; starts = r.starts; is = r.is }
+
+  pub opened_cause : (options : RunOptions) (before mid : Counts) (acked : ℕ) (why : Status) → IsLaterThan before mid → IsRanFault options script.shape part mid acked why → IsScriptFault options script.shape on before acked why
+  opened_cause options before mid acked why later is =
+      fault_by (λ n cause. ⊥) (λ x. ((IsTrue on.tells → restart_refused (restart_in s bodies options.from_point on.points) ≡ Some x) × (acked ≡ length bodies)) ⊎ (s ≢ script.shape)) ⊥ (HasFailed options mid)
+      (λ n cause. ⊥) (λ x. IsTrue on.tells → (refused_log script.shape options.from_point on ≡ Some x) × (acked ≡ opened_count (outcome (Some script.shape) on.log))) ⊥ (HasFailed options before)
+      (λ n cause never. never)
+      (λ x kind bad told. ⊎_elim
+          (λ found. (ap (opening_refused script.shape options.from_point on.points) (opens told) ∙ subst (λ (x' : Shape). restart_refused (restart_in x' bodies options.from_point on.points) ≡ Some x) (same told) (found.0 told), found.1 ∙ sym (ap opened_count (opens told))))
+          (λ differs. absurd (differs (same told))) bad)
+      (λ never. never) (failed_since options before mid later) why is
+
+  -- the point of the log that was opened
+  pub opened_point : {D : Type 0} (options : RunOptions) (content : D → Content) (moment : D → ℕ) (left_since : D → ℕ → List ℕ → Type 0) (faults_of : D → ℕ) (old new : D) (may : Bool) (acked : ℕ)
+      → LeavesPoint options content moment left_since faults_of old new may (IsSavingPart options script.shape part content moment left_since old new acked)
+      → LeavesPoint options content moment left_since faults_of old new may (IsSavingScript options script.shape on content moment left_since old new acked)
+  opened_point options content moment left_since faults_of old new may acked is = record {
+    later = is.later;
+    unused = is.unused;
+    unsaved = is.unsaved;
+    left = ⊎_elim (λ only. inl only) (λ saving. inr (record { found = saving.found; was_found = found_by saving.found saving.was_found; start = saving.start; starts = saving.starts; is = saving.is })) is.left;
   }
 
-  pub opened_cause : (before mid after acked : ℕ) (why : Status) → before ≤ mid → IsRanFault tells script.shape s bodies mid after acked why → IsScriptFault tells script.shape seen before after acked why
-  opened_cause before mid after acked why later is =
-      fault_by (λ n cause. ⊥) (λ x. ((IsTrue tells → entries_refused (entries_past s 0 bodies) ≡ Some x) × (acked ≡ length bodies)) ⊎ (s ≢ script.shape)) ⊥ (λ one. (one ≡ which.Log) × Rose mid after)
-      (λ n cause. ⊥) (λ x. IsTrue tells → (refused_log script.shape seen ≡ Some x) × (acked ≡ opened_count (outcome (Some script.shape) seen))) ⊥ (λ one. (one ≡ which.Log) × Rose before after)
-      (λ n cause never. never)
-      (λ x kind bad told. ⊎_elim (λ entry. (ap (opening_refused script.shape) (opens told) ∙ subst (λ (x' : Shape). entries_refused (entries_past x' 0 bodies) ≡ Some x) (same told) (entry.0 told), entry.1 ∙ sym (ap opened_count (opens told)))) (λ differs. absurd (differs (same told))) bad)
-      (λ never. never) (λ one failed. (failed.0, let rose = failed.1 in omega (arith, later, rose))) why is
-
-  pub opened_left : {D : Type 0} (content : D → Content) (moment : D → ℕ) (left_since : D → ℕ → List ℕ → Type 0) (faults_of : D → ℕ) (old new : D) (mid : ℕ) (cut_off : Bool) (acked : ℕ) → (content old).seen ≡ seen → faults_of old ≤ mid → mid ≤ faults_of new
-      → (IsTrue tells → IsLeftOf s bodies (content new) mid (faults_of new) cut_off acked) → IsScriptLeft script.shape tells content moment left_since faults_of old new cut_off acked
+  pub opened_left : {D : Type 0} (content : D → Content) (moment : D → ℕ) (left_since : D → ℕ → List ℕ → Type 0) (faults_of : D → ℕ) (old new : D) (mid : ℕ) (cut_off : Bool) (acked : ℕ) → (content old).seen ≡ on.log → faults_of old ≤ mid → mid ≤ faults_of new
+      → (IsTrue on.tells → IsLeftOf s bodies (content new) mid (faults_of new) cut_off acked) → IsScriptLeft script.shape on.tells content moment left_since faults_of old new cut_off acked
   opened_left content moment left_since faults_of old new mid cut_off acked these later onward holds = record {
     later = omega (arith, later, onward);
     left = λ told.
-        let there = was_there seen script.shape (record { shape = Some s; bodies = bodies }) (opens told) in
+        let there = was_there on.log script.shape (record { shape = Some s; bodies = bodies }) (opens told) in
         inr (⊎_elim
         (λ none. inl (found_left (same told) there none.0 none.1))
         (λ more. let read : entries_past script.shape 0 bodies ≡ Ok more.0 = subst (λ (x : Shape). entries_past x 0 bodies ≡ Ok more.0) (same told) more.1 in
-        inr (more.0, subst (λ x. HasFound x script.shape more.0) (sym these) (has_found seen s script.shape bodies more.0 (same told) there read), subst (λ (x : Shape). HoldsAcked x more.0 (content new) (faults_of old) (faults_of new) cut_off acked) (same told) more.2))
+        inr (more.0, subst (λ x. HasFound x script.shape more.0) (sym these) (has_found on.log s script.shape bodies more.0 (same told) there read), subst (λ (x : Shape). HoldsAcked x more.0 (content new) (faults_of old) (faults_of new) cut_off acked) (same told) more.2))
         (left_from s bodies (content new) (faults_of old) mid (faults_of new) cut_off acked later (holds told)));
   }
     where
-      found_left : s ≡ script.shape → WasThere seen script.shape (record { shape = Some s; bodies = bodies }) → acked ≡ length bodies → ((image : List ℕ) → Image (content new) image → Holds s bodies image) → HoldsFound script.shape (content old).seen (content new) acked
+      found_left : s ≡ script.shape → WasThere on.log script.shape (record { shape = Some s; bodies = bodies }) → acked ≡ length bodies → ((image : List ℕ) → Image (content new) image → Holds s bodies image) → HoldsFound script.shape (content old).seen (content new) acked
       found_left own there counts images = record {
         found = bodies;
-        was_found = subst (λ x. (log_in x ≡ Ok (record { shape = Some script.shape; bodies = bodies })) ⊎ ((is_unborn x ≡ true) × (bodies ≡ []))) (sym these) (subst (λ (x : Shape). (log_in seen ≡ Ok (record { shape = Some x; bodies = bodies })) ⊎ ((is_unborn seen ≡ true) × (bodies ≡ []))) own (had_bodies seen s script.shape bodies own there));
+        was_found = subst (λ x. (log_in x ≡ Ok (record { shape = Some script.shape; bodies = bodies })) ⊎ ((is_unborn x ≡ true) × (bodies ≡ []))) (sym these) (subst (λ (x : Shape). (log_in on.log ≡ Ok (record { shape = Some x; bodies = bodies })) ⊎ ((is_unborn on.log ≡ true) × (bodies ≡ []))) own (had_bodies on.log s script.shape bodies own there));
         counted = counts;
         images = λ image left. subst (λ (x : Shape). Holds x bodies image) own (images image left);
       }
 
 -- why it was not opened
-pub unopened_cause : (tells : Bool) (shape : Shape) (seen : List ℕ) (before after : ℕ) (error : OpenError) → (IsTrue tells → OpenRefuses error (outcome (Some shape) seen)) → (error ≡ opening.Device → Rose before after) → error ≢ opening.Unborn
-    → IsScriptFault tells shape seen before after 0 (opening_status error)
-unopened_cause tells shape seen before after opening.Memory refuses rose born = tt
-unopened_cause tells shape seen before after opening.Device refuses rose born = (refl, rose refl)
-unopened_cause tells shape seen before after (opening.BadPage bad) refuses rose born = λ told. (ap (opening_refused shape) (refuses told), sym (ap opened_count (refuses told)))
-unopened_cause tells shape seen before after (opening.Config field log asked) refuses rose born = λ told. (ap (opening_refused shape) (refuses told), sym (ap opened_count (refuses told)))
-unopened_cause tells shape seen before after opening.Unborn refuses rose born = absurd (born refl)
+pub unopened_cause : (options : RunOptions) (shape : Shape) (on : Found) (counts : Counts) (error : OpenError) → (IsTrue on.tells → OpenRefuses error (outcome (Some shape) on.log)) → (error ≡ opening.Device → Rose counts.log counts.log_now) → error ≢ opening.Unborn
+    → IsScriptFault options shape on counts 0 (opening_status error)
+unopened_cause options shape on counts opening.Memory refuses rose born = tt
+unopened_cause options shape on counts opening.Device refuses rose born = rose refl
+unopened_cause options shape on counts (opening.BadPage bad) refuses rose born = λ told. (ap (opening_refused shape options.from_point on.points) (refuses told), sym (ap opened_count (refuses told)))
+unopened_cause options shape on counts (opening.Config field log asked) refuses rose born = λ told. (ap (opening_refused shape options.from_point on.points) (refuses told), sym (ap opened_count (refuses told)))
+unopened_cause options shape on counts opening.Unborn refuses rose born = absurd (born refl)

@@ -14,7 +14,7 @@ ghost use Rattle.hy_run.specs.Devices.{counts_of, devices_of, found_on, left_on}
 ghost use Rattle.hy_run.specs.Obeying.{ends_early, ends_first};
 ghost use Rattle.hy_run.specs.Output.{kind_of, log_refused};
 ghost use Rattle.hy_run.specs.Running.{IsScriptRun, LeavesPoint};
-ghost use Rattle.hy_run.specs.RunningParts.{IsLeftOf, IsOneSaved, IsRanFault, IsRanText, IsSaveFault, IsSavingPart, IsSavingRoller, IsSavingScript, IsScriptFault, IsScriptLeft, may_save, opened_as, opening_status, servers_at, told_text};
+ghost use Rattle.hy_run.specs.RunningParts.{IsLeftOf, IsOneSaved, IsRanFault, IsRanText, IsSaveFault, IsSavingPart, IsSavingRoller, IsSavingScript, IsScriptFault, IsScriptLeft, may_save, opened_as, opening_status, restart_fault, servers_at, told_text};
 
 use crate::inspect::Inspected;
 use crate::live::live_of;
@@ -153,6 +153,7 @@ fn keep_point<D: Disk>(
     ensures left { OnlyReads D.content D.moment D.left_since D.faults_of points.old points.new ⊎ IsSavingRoller D.tells shape roller.now D.content D.moment D.left_since points.old points.new }
     ensures later { D.faults_of points.old ≤ D.faults_of points.new }
     ensures unused { options.save ≡ false → points.new ≡ points.old }
+    ensures unsaved { options.save ≡ false → OnlyReads D.content D.moment D.left_since D.faults_of points.old points.new }
 {
     if !options.save {
         unused(points);
@@ -185,6 +186,7 @@ fn told<D: Disk>(
     ensures left { OnlyReads D.content D.moment D.left_since D.faults_of points.old points.new ⊎ ((r : Roll) × Contains boards.now r × IsSavingRoller D.tells shape r D.content D.moment D.left_since points.old points.new) }
     ensures later { D.faults_of points.old ≤ D.faults_of points.new }
     ensures unused { options.save ≡ false → points.new ≡ points.old }
+    ensures unsaved { options.save ≡ false → OnlyReads D.content D.moment D.left_since D.faults_of points.old points.new }
 {
     let Ok(text) = text_of(alloc, events, replies, boards) else {
         unused(points);
@@ -210,6 +212,7 @@ fn ran<D: Disk>(
     ensures left { OnlyReads D.content D.moment D.left_since D.faults_of points.old points.new ⊎ ((r : Roll) × Contains run.boards r × IsSavingRoller D.tells shape r D.content D.moment D.left_since points.old points.new) }
     ensures later { D.faults_of points.old ≤ D.faults_of points.new }
     ensures unused { options.save ≡ false → points.new ≡ points.old }
+    ensures unsaved { options.save ≡ false → OnlyReads D.content D.moment D.left_since D.faults_of points.old points.new }
     ensures acked { result.acked ≡ length run.log.bodies }
     ensures disk { result.log ≡ run.log.disk }
     ensures held { IsTrue D.tells → run.log.stopped ≡ None → (image : List ℕ) → Image (D.content result.log) image → Holds run.log.shape run.log.bodies image }
@@ -234,6 +237,16 @@ fn ran<D: Disk>(
         acked: log.len(),
         log: log.close(),
     }
+}
+
+// A log that is closed since it was not restarted.
+fn refused<D: Disk>(log: PageLog<D>, error: RestartError) -> Inspected<D>
+    ensures text { result.text ≡ Err (restart_fault error) }
+    ensures acked { result.acked ≡ length log.bodies }
+    ensures disk { result.log ≡ log.disk }
+    ensures exact { IsTrue D.tells → log.stopped ≡ None → (image : List ℕ) → Image (D.content result.log) image → Holds log.shape log.bodies image }
+{
+    closed(log, error.into())
 }
 
 // What is told of a run that was cut short.
@@ -310,7 +323,7 @@ fn run_through<R: Threads + Wait + Sync, D: Disk + Send, G: Gate + Sync>(
         Ok(restarted) => run_from(
             rt, alloc, script, options, log, restarted, points, threads, gate,
         ),
-        Err(error) => closed(log, error.into()),
+        Err(error) => refused(log, error),
     }
 }
 
