@@ -9,12 +9,12 @@ pub rest_of-rest-requires-clause-within : goal.rest_of-rest-requires-clause-with
 rest_of-rest-requires-clause-within g c = rw c.start_of-first.ensures (start_within c.args.shape _ c.args.point.now c.requires.good c.requires.valid c.requires.within)
 
 pub roll-requires-clause-whole : goal.roll-requires-clause-whole
-roll-requires-clause-whole g c =
+roll-requires-clause-whole g c κs within =
     let rest : c.rest_of-rest.result.now ≡ drop (start_of c.args.point.now) (whole_front c.args.shape c.args.entries.now) = c.rest_of-rest.ensures ∙ ap (λ n. drop n (whole_front c.args.shape c.args.entries.now)) c.start_of-first.ensures in
     (can_roll c.args.shape c.args.entries.now c.args.point.now _ _ c.requires.good c.requires.lawful c.requires.valid c.requires.within c.in_ok-start.ensures rest).whole
 
 pub roll-requires-clause-room : goal.roll-requires-clause-room
-roll-requires-clause-room g c =
+roll-requires-clause-room g c κs within =
     let rest : c.rest_of-rest.result.now ≡ drop (start_of c.args.point.now) (whole_front c.args.shape c.args.entries.now) = c.rest_of-rest.ensures ∙ ap (λ n. drop n (whole_front c.args.shape c.args.entries.now)) c.start_of-first.ensures in
     (can_roll c.args.shape c.args.entries.now c.args.point.now _ _ c.requires.good c.requires.lawful c.requires.valid c.requires.within c.in_ok-start.ensures rest).room
 
