@@ -34,7 +34,7 @@ point_resumes law front c good whole stands =
     let there = law s front good (ap (λ (n : ℕ). n % s.group) size ∙ whole) in
     let base : base_behind s (length front) ≡ c.base = ap (λ (n : ℕ). base_behind s n) size ∙ sym stands.base_is in
     let base_rows : rows s front (base_behind s (length front)) ≡ c.rows =
-        rows_of s front (base_groups s (length front / s.group)) good.group.at_least ∙ ap (λ (n : ℕ). rows_after s front (base_groups s (n / s.group))) size ∙ sym stands.rows_are in
+    rows_of s front (base_groups s (length front / s.group)) good.group.at_least ∙ ap (λ (n : ℕ). rows_after s front (base_groups s (n / s.group))) size ∙ sym stands.rows_are in
     let flags : commits_past (base_behind s (length front)) (verdicts s front (length front)) ≡ c.flags = (λ i. commits_past (base i) (verdicts s front (size i))) ∙ sym stands.flags_are in
     subst (λ (r : Roll). Stands front r) (λ i. resumed s (size i) (base_rows i) (drop (base i) front) (flags i)) there
 

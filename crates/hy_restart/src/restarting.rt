@@ -39,11 +39,7 @@ fn shared(alloc: Global, entries: Vec<Entry>) -> Result<Vec<Shared<Entry>>, Allo
 }
 
 // The roller at a point's position.
-fn at_point(
-    alloc: Global,
-    point: &Point,
-    entries: &[Shared<Entry>],
-) -> Result<Roller, AllocError>
+fn at_point(alloc: Global, point: &Point, entries: &[Shared<Entry>]) -> Result<Roller, AllocError>
     requires within { point.now.position ≤ length entries.now }
     ensures { IfOk result (λ r. r ≡ starting point.now.shape entries.now (Some point.now)) }
 {

@@ -11,7 +11,8 @@ mod summary;
 mod texts;
 
 pub use log_texts::{
-    ahead_line, config_line, device_line, entry_line, page_line, point_line, write_check, write_dump,
+    ahead_line, config_line, device_line, entry_line, page_line, point_line, write_check,
+    write_dump,
 };
 pub use summary::write_summary;
 pub use texts::{memory_line, script_line, source_line, usage_line, write_report, write_trace};
