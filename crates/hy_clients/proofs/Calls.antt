@@ -80,7 +80,7 @@ begins lock script client all old new begun run run' parts turn =
       next = goes_own client all old new does turn parts (Happened (Begin client) []) turn.done.0 (same client);
       begins = refl;
       snap = turn.done.3 ∙ sym (ap (board_at client) (before_is client all old new does turn));
-      rows = begun_live script old.seen turn.before new.seen client begun.snap begun.roller run.told turn.grown (turn.seen ∙ ap (λ (l : List Mark). turn.before ++ l) turn.done.0) run'.told run'.setting_is run'.standing turn.done.3 turn.done.4;
+      rows = begun_live script old.seen turn.before new.seen client begun.snap begun.roller run.told turn.grown (turn.seen ∙ ap (λ (l : List Mark). turn.before ++ l) turn.done.0) run'.told run'.setting_is turn.done.3 turn.done.4;
     }
 
 pub begin_tells : (lock : Lock) (script : Workload) (client all : ℕ) (old new : Known Mark) (answer : Result Begun BeginRefusal) → IsRunPass lock script old → IsRunPass lock script new → new.parts ≡ old.parts → OneTurn all old new (BeginDoes client answer)

@@ -1,5 +1,5 @@
 -- How a program that has run ends.
-use Rattle.std.proofs.Common.{◌≡◌, ℕ, Bool, true, false, List, [], ◌∷◌, Some, refl, ap, sym, ◌∙◌, subst, inl, inr}
+use Rattle.std.proofs.Common.{◌≡◌, ℕ, ◌<◌, Bool, true, false, List, [], ◌∷◌, length, Some, refl, ap, sym, ◌∙◌, subst, inl, inr, arith}
 use Rattle.std.specs.Prelude.{Option, option_map, if◌then◌else◌}
 use Rattle.std.specs.Option.{option_map_or}
 use mathlib.Core.List.{IsPrefix}
@@ -22,14 +22,16 @@ use Rattle.hy_hub.specs.declared.mark.Mark.{Mark}
 use Rattle.hy_hub.specs.Trace.{state_of}
 use Rattle.hy_hub.specs.Hub.{IsTold}
 use Rattle.hy_hub.specs.Calls.{len_of}
+use Rattle.hy_hub.proofs.Later.{not_empty}
 use Rattle.hy_clients.specs.declared.answered.Answered.{Answered}
 use Rattle.hy_clients.specs.declared.answered.End as end
 use Rattle.hy_clients.specs.declared.answered.End.TheVariants.{Reading}
-use Rattle.hy_clients.specs.Passing.{IsRunPass, IsNextTurn}
+use Rattle.hy_clients.specs.Passing.{IsRunPass, IsNextTurn, OpensStanding}
 use Rattle.hy_clients.specs.Programs.{EndsProgram, EndsAs, before}
 use Rattle.hy_clients.specs.Serving.{IsClient, AreLive, TakesEntry, Takes, EndsReading, IsOwnEnd, EndsBy, Ends}
-use Rattle.hy_clients.proofs.Turning.{prefix_take}
+use Rattle.hy_clients.proofs.Turning.{prefix_length, prefix_take, take_prefix}
 use Rattle.hy_clients.proofs.Living.{live_on}
+use Rattle.hy_clients.proofs.Openings.{stood_before}
 use Rattle.hy_clients.proofs.Passes.{entry_is_own}
 
 -- a turn by which a program that left this ends, and how that is told
@@ -71,10 +73,10 @@ own_end lock script client server pass r f own run e = subst (IsOwnEnd client pa
     either false = tt
 
 -- what the program of this number comes to on the live rows
-execution_is : (script : Workload) (client number snap : ℕ) (program : Program) (list : List Mark) (rows : List Row) → program_of script client number ≡ Some program → AreLive script list snap rows
+execution_is : (script : Workload) (client number snap : ℕ) (program : Program) (list : List Mark) (rows : List Row) → program_of script client number ≡ Some program → AreLive script list snap rows → OpensStanding list
     → execution script (state_of list).log client number snap ≡ Some (exec program (pairs_of rows))
-execution_is script client number snap program list rows e live_rows =
-    ap (option_map (λ (p : Program). exec p (live script.shape (state_of list).log snap))) e ∙ ap (λ (pairs : List Pair). Some (exec program pairs)) (sym live_rows.are)
+execution_is script client number snap program list rows e live_rows stood =
+    ap (option_map (λ (p : Program). exec p (live script.shape (state_of list).log snap))) e ∙ ap (λ (pairs : List Pair). Some (exec program pairs)) (sym (live_rows.are stood))
 
 -- A program was begun and run on the rows of its snapshot, and ended by what it left. So it ends as it does on its snapshot.
 pub program_ends : (script : Workload) (client server number : ℕ) (program : Program) (rows : List Row) (f : Finished) (old new : Known Mark) (told : Answered)
@@ -86,13 +88,14 @@ program_ends script client server number program rows f old new told home e is l
     let by : EndsFor script client told.snap effects old new told.end = ends_for script client server told.snap effects old new told.end home (pairs_of rows) f left ends in
     let begins : IsPrefix old.seen (before new.seen by.turn) = prefix_take old.seen new.seen by.turn.0 by.next.goes.grown by.next.behind in
     let here : AreLive script (before new.seen by.turn) told.snap rows = live_on script old.seen (before new.seen by.turn) told.snap rows is begins live_rows in
-    let done = execution_is script client number told.snap program (before new.seen by.turn) rows e here in
+    let some : 0 < length (before new.seen by.turn) = omega (arith, not_empty old.seen is, prefix_length old.seen (before new.seen by.turn) begins) in
+    let done = λ (stood : OpensStanding new.seen). execution_is script client number told.snap program (before new.seen by.turn) rows e here (stood_before (before new.seen by.turn) new.seen some (take_prefix new.seen by.turn.0) stood) in
     record {
       turn = by.turn;
       next = by.next;
-      ends = subst (λ (o : Option Effects). EndsProgram script client told.snap o by.turn.1) (sym (ap (option_map (λ (d : List Answer × Effects). d.1)) done)) by.ends;
+      ends = λ stood. subst (λ (o : Option Effects). EndsProgram script client told.snap o by.turn.1) (sym (ap (option_map (λ (d : List Answer × Effects). d.1)) (done stood))) by.ends;
       ends_as = by.ends_as;
-      answers = answers ∙ sym (ap (λ (o : Option (List Answer × Effects)). option_map_or (λ d. d.0) o []) done);
+      answers = λ stood. answers ∙ sym (ap (λ (o : Option (List Answer × Effects)). option_map_or (λ d. d.0) o []) (done stood));
     }
 
 pub ends_same : (script : Workload) (client number : ℕ) (old new : Known Mark) (mine told : Answered) → mine ≡ told → Ends script client number old new mine → Ends script client number old new told

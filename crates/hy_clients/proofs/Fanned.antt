@@ -20,7 +20,7 @@ use Rattle.hy_hub.proofs.Later.{not_empty}
 use Rattle.hy_base.proofs.NthLemmas.{nth_some}
 use Rattle.hy_clients.specs.declared.answered.Answered.{Answered}
 use Rattle.hy_clients.specs.Programs.{AreServed}
-use Rattle.hy_clients.specs.Passing.{OpensStanding, IsRunPass, own_turns}
+use Rattle.hy_clients.specs.Passing.{IsRunPass, own_turns}
 use Rattle.hy_clients.specs.Served.{AllServed, IsServedBy}
 use Rattle.hy_clients.specs.Fanning.{TaskView, AreNumbered, IsReadyTask, IsEndedTask}
 
@@ -30,7 +30,6 @@ same_run lock script pass other idle same run = record {
   idle = idle;
   told = subst IsTold (sym same) run.told;
   setting_is = ap setting_of same ∙ run.setting_is;
-  standing = subst OpensStanding (sym same) run.standing;
 }
 
 -- a pass that has taken in another
@@ -40,12 +39,6 @@ joined lock script pass one other idle seen first second =
       | inl e ↦ same_run lock script pass one idle e first
       | inr e ↦ same_run lock script pass other idle e second
     ]
-
-pub opens_more : (xs ys : List Mark) → IsPrefix xs ys → OpensStanding xs → OpensStanding ys
-opens_more [] ys p stands = absurd stands
-opens_more (Happened event added ∷ xs) ys p stands = absurd stands
-opens_more (Halted at ∷ xs) ys p stands = absurd stands
-opens_more (Opened o ∷ xs) ys p stands = subst OpensStanding p.1 stands
 
 pub turn_grown : {all : ℕ} {old new : Known Mark} {does : List Mark → List Mark → Type 0} → OneTurn all old new does → IsPrefix old.seen new.seen
 turn_grown {all} {old} {new} {does} turn =
@@ -58,7 +51,6 @@ run_on lock script {all} {old} {new} {does} idle turn run = record {
   idle = idle;
   told = turn.told;
   setting_is = turn.setting (not_empty old.seen run.told) ∙ run.setting_is;
-  standing = opens_more old.seen new.seen (turn_grown turn) run.standing;
 }
 
 -- tasks with one more, the next in number

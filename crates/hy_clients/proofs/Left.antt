@@ -1,15 +1,13 @@
 -- What is left of a run when its hub is closed.
-use Rattle.std.proofs.Common.{◌≡◌, ◌≢◌, ℕ, ◌+◌, ◌≤◌, Bool, true, false, IsTrue, List, [], ◌∷◌, ◌++◌, length, take, drop, map, Some, None, refl, ap, sym, ◌∙◌, subst, arith, append_assoc, length-append}
-use Rattle.std.specs.Prelude.{All, Option, ◌==◌, ◌/◌}
+use Rattle.std.proofs.Common.{◌≡◌, ◌≢◌, ℕ, ◌+◌, ◌≤◌, Bool, true, false, IsTrue, List, [], ◌∷◌, ◌++◌, length, get_or, take, map, Some, None, refl, ap, sym, ◌∙◌, subst, arith, append_assoc, length-append}
+use Rattle.std.specs.Prelude.{All, Option, ◌==◌}
 use Rattle.std.specs.List.{AllByRecursion, list_all}
 use Rattle.std.proofs.lemmas.List.{take_all}
-use Rattle.std.proofs.lemmas.List.Elements.{All-nil, All-cons, All-head, All-tail}
+use Rattle.std.proofs.lemmas.List.Elements.{All-nil, All-cons}
 use Rattle.std.proofs.lemmas.Bool.Decides.{nat_tests}
-use Rattle.std.proofs.Math.Nat.{mul-div_cancel_left}
 use mathlib.Core.List.{IsPrefix}
 use Rattle.hy_base.specs.Faults.{Rose}
 use Rattle.hy_base.specs.Log.{HaveLawfulSnaps, IsLawful}
-use Rattle.hy_base.specs.Shape.{IsGoodShape}
 use Rattle.hy_base.specs.Script.{Workload}
 use Rattle.hy_base.specs.declared.layout.Shape.{Shape}
 use Rattle.hy_base.specs.declared.record.EntryKind.{EntryKind}
@@ -19,8 +17,6 @@ use Rattle.hy_rules.specs.EntryFormat.{spelling}
 use Rattle.hy_rules.specs.Moves.{Setting}
 use Rattle.hy_rules.specs.Rolling.{Roll, rolled_upto, Stands}
 use Rattle.hy_rules.specs.Runs.{setting_of as script_setting}
-use Rattle.hy_rules.specs.Validation.{verdicts, verdicts_after}
-use Rattle.hy_rules.proofs.Growth.{verdict_count}
 use Rattle.hy_hub.specs.declared.mark.Opening.{Opening}
 use Rattle.hy_hub.specs.declared.mark.Mark.{Mark}
 use Rattle.hy_hub.specs.declared.mark.Mark.TheVariants.{Opened}
@@ -35,8 +31,8 @@ use Rattle.hy_base.proofs.NthLemmas.{left_of, right_of}
 use Rattle.hy_hub.proofs.Told.{told_setting}
 use Rattle.hy_hub.proofs.Passing.{log_more}
 use Rattle.hy_clients.specs.Passing.{OpensStanding, opened_log, opened_faults}
-use Rattle.hy_clients.specs.Replying.{KeepsAll}
 use Rattle.hy_clients.specs.Finished.{IsCutShort}
+use Rattle.hy_clients.proofs.Openings.{opened_same}
 
 -- ---- logs
 
@@ -115,21 +111,13 @@ module _ {D : Type 0} {tells : Bool} {content : D → Content} {faults : ℕ} {l
   pub rose : log.stopped ≢ None → Rose (opened_faults list) faults
   rose stopped = subst (λ (n : ℕ). Rose n faults) (sym (ap opened_faults closed.told.told.begins)) (closed.stored.cause stopped)
 
--- what the opening says, by a beginning of the list
-opened_same : (first list : List Mark) → IsTold first → IsPrefix first list → (opened_log list ≡ opened_log first) × (setting_of list ≡ setting_of first)
-opened_same first list is p =
-    let b = is.told.begins in (
-      ap opened_log (sym p.1) ∙ (ap (λ (l : List Mark). opened_log (l ++ p.0)) b ∙ sym (ap opened_log b)),
-      ap setting_of (sym p.1) ∙ (ap (λ (l : List Mark). setting_of (l ++ p.0)) b ∙ sym (ap setting_of b)),
-    )
-
 -- the log of a hub that was closed, by what its first pass had seen
 pub run_cut : {D : Type 0} {tells : Bool} {content : D → Content} {faults : ℕ} {list : List Mark} {log : View D} {entries : List EntryKind} {rollers : List Roll} (closed : IsClosed tells content faults list log entries rollers) (script : Workload) (first : List Mark)
     → IsTold first → IsPrefix first list → setting_of first ≡ script_setting script → IsCutShort tells content script.shape (opened_log first) log
 run_cut {D} {tells} {content} {faults} {list} {log} {entries} {rollers} closed script first is p same =
     let o = opened_same first list is p in
-    let shape : (setting_of list).shape ≡ script.shape = ap (λ (w : Setting). w.shape) (o.1 ∙ same) in
-    subst (λ (l : List EntryKind). IsCutShort tells content script.shape l log) o.0 (cut_short closed script.shape shape)
+    let shape : (setting_of list).shape ≡ script.shape = ap (λ (w : Setting). w.shape) (o.setting ∙ same) in
+    subst (λ (l : List EntryKind). IsCutShort tells content script.shape l log) o.log (cut_short closed script.shape shape)
 
 -- the log before a hub was made of it, or where none was
 pub outset_cut : {D : Type 0} (tells : Bool) (content : D → Content) (log back : View D) (entries : List EntryKind) (start : Roll) (servers : ℕ) (homes : List Home) (shape : Shape)
@@ -146,29 +134,17 @@ outset_cut tells content log back entries start servers homes shape outset same 
 
 -- ---- rollers of a whole log
 
-pub all_stand : (o : Opening) (log : List EntryKind) (rs : List Roll) → Stands (take (rolled_upto o.start) o.found) o.start → All (IsBoard o log) rs → list_all (λ board. board == length log) (map rolled_upto rs) ≡ true → All (λ r. Stands log r) rs
-all_stand o log [] stood all ends = All-nil _
-all_stand o log (r ∷ rs) stood all ends =
-    let same : rolled_upto r ≡ length log = let e = left_of (rolled_upto r == length log) _ ends in grind (arith, nat_tests) in
-    let own = (All-head (IsBoard o log) r rs all).stands stood in
-    let whole : take (rolled_upto r) log ≡ log = ap (λ (n : ℕ). take n log) same ∙ take_all (length log) log (omega arith) in
-    All-cons (λ r. Stands log r) r rs (subst (λ (l : List EntryKind). Stands l r) whole own) (all_stand o log rs stood (All-tail (IsBoard o log) r rs all) (right_of (rolled_upto r == length log) _ ends))
+pub all_whole : (len : ℕ) (rs : List Roll) → list_all (λ board. board == len) (map rolled_upto rs) ≡ true → All (λ r. rolled_upto r ≡ len) rs
+all_whole len [] ends = All-nil _
+all_whole len (r ∷ rs) ends =
+    let same : rolled_upto r ≡ len = let e = left_of (rolled_upto r == len) _ ends in grind (arith, nat_tests) in
+    All-cons (λ r. rolled_upto r ≡ len) r rs same (all_whole len rs (right_of (rolled_upto r == len) _ ends))
+
+pub all_stand : (o : Opening) (log : List EntryKind) (rs : List Roll) → Stands (take (rolled_upto o.start) o.found) o.start → All (IsBoard o log) rs → All (λ r. rolled_upto r ≡ length log) rs → All (λ r. Stands log r) rs
+all_stand o log rs stood boards whole = λ k d below.
+    let r : Roll = get_or rs k d in
+    let all : take (rolled_upto r) log ≡ log = ap (λ (n : ℕ). take n log) (whole k d below) ∙ take_all (length log) log (omega arith) in
+    subst (λ (l : List EntryKind). Stands l r) all ((boards k d below).stands stood)
 
 pub stands_first : (list : List Mark) (is : IsTold list) → OpensStanding list → Stands (take (rolled_upto is.opened.start) is.opened.found) is.opened.start
 stands_first list is stands = subst OpensStanding is.told.begins stands
-
-module _ (log : List EntryKind) (r : Roll) (good : IsGoodShape r.shape) (first : r.from ≡ 0) (st : Stands log r) where
-  abbrev n : ℕ
-  n = r.rolled.groups
-
-  count : length log / r.shape.group ≡ r.rolled.groups
-  count = ap (λ (k : ℕ). k / r.shape.group) st.whole ∙ mul-div_cancel_left r.rolled.groups good.group.at_least
-
-  all_verdicts : r.rolled.verdicts ≡ verdicts_after r.shape log r.rolled.groups
-  all_verdicts = st.verdicts_are ∙ ap (λ (k : ℕ). drop k (verdicts_after r.shape log r.rolled.groups)) first
-
-  pub verdicts_of_all : r.rolled.verdicts ≡ verdicts r.shape log (length log)
-  verdicts_of_all = all_verdicts ∙ ap (λ (k : ℕ). verdicts_after r.shape log k) (sym count)
-
-  pub keeps_all : KeepsAll r
-  keeps_all = record { from_first = first; count = ap length all_verdicts ∙ verdict_count r.shape log r.rolled.groups (let w = st.whole in omega (arith, w)) }

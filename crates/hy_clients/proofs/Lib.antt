@@ -7,6 +7,8 @@ pub mod Finishes
 pub mod Fitting
 pub mod Left
 pub mod Living
+pub mod Openings
+pub mod Outcomes
 pub mod OwnTurns
 pub mod Passes
 pub mod Progress

@@ -24,9 +24,9 @@ use Rattle.hy_hub.specs.Hub.{IsTold, IsBoardAt}
 use Rattle.hy_hub.specs.Calls.{IsRollerOf, board_at, len_of}
 use Rattle.hy_base.proofs.NthLemmas.{All-nth}
 use Rattle.hy_hub.proofs.Passing.{log_more, roller_more}
-use Rattle.hy_hub.proofs.Later.{opened_on}
+use Rattle.hy_hub.proofs.Later.{not_empty, opened_on}
 use Rattle.hy_clients.proofs.Answering.{live_grows}
-use Rattle.hy_clients.specs.Passing.{OpensStanding}
+use Rattle.hy_clients.proofs.Openings.{stood_before}
 use Rattle.hy_clients.specs.Serving.{AreLive}
 
 -- the log of a list of a hub goes on as the list does
@@ -39,7 +39,7 @@ live_on script xs ys snap rows told p is =
     let within : snap ≤ length (state_of xs).log = is.within in
     record {
       within = omega (arith, within, ap length grows.1, length-append (state_of xs).log grows.0);
-      are = is.are ∙ (sym (live_grows script.shape (state_of xs).log grows.0 snap within) ∙ ap (λ l. live script.shape l snap) grows.1);
+      are = λ stood. is.are (stood_before xs ys (not_empty xs told) p stood) ∙ (sym (live_grows script.shape (state_of xs).log grows.0 snap within) ∙ ap (λ l. live script.shape l snap) grows.1);
     }
 
 pub live_same : (script : Workload) (list : List Mark) (snap : ℕ) (rows tree : List Row) → rows ≡ tree → AreLive script list snap tree → AreLive script list snap rows
@@ -55,23 +55,23 @@ stands_live log r good within stands =
     let longer : IsOfLonger (take upto log) (drop upto log) r = growth_keeps_standing (take upto log) (drop upto log) r good stands in
     ap pairs_of (longer.rows_are ∙ (λ i. rows r.shape (take-append-drop upto log i) (count i)))
 
-opened_live : (script : Workload) (o : Opening) (past : List Mark) (r : Roll) → IsGoodShape o.shape → setting o ≡ script_setting script → OpensStanding (Opened o ∷ past) → rolled_upto r ≤ len_of (Opened o ∷ past) → IsRollerOf (Opened o ∷ past) (rolled_upto r) r
+opened_live : (script : Workload) (o : Opening) (past : List Mark) (r : Roll) → IsGoodShape o.shape → setting o ≡ script_setting script → rolled_upto r ≤ len_of (Opened o ∷ past) → IsRollerOf (Opened o ∷ past) (rolled_upto r) r
     → AreLive script (Opened o ∷ past) (rolled_upto r) r.rolled.tree
-opened_live script o past r good same standing within is =
+opened_live script o past r good same within is =
     let shape : r.shape ≡ script.shape = is.0 ∙ ap (λ (w : Setting). w.shape) same in
     record {
       within = within;
-      are =
-          stands_live (state_of (Opened o ∷ past)).log r (subst IsGoodShape (sym is.0) good) within (is.3 standing)
+      are = λ stood.
+          stands_live (state_of (Opened o ∷ past)).log r (subst IsGoodShape (sym is.0) good) within (is.3 stood)
           ∙ ap (λ s. live s (state_of (Opened o ∷ past)).log (rolled_upto r)) shape;
     }
 
 -- the rows of a roller of the list are those that live where it is
-pub roller_live : (script : Workload) (list : List Mark) (r : Roll) → IsTold list → setting_of list ≡ script_setting script → OpensStanding list → rolled_upto r ≤ len_of list → IsRollerOf list (rolled_upto r) r → AreLive script list (rolled_upto r) r.rolled.tree
-roller_live script list r told same standing within is =
+pub roller_live : (script : Workload) (list : List Mark) (r : Roll) → IsTold list → setting_of list ≡ script_setting script → rolled_upto r ≤ len_of list → IsRollerOf list (rolled_upto r) r → AreLive script list (rolled_upto r) r.rolled.tree
+roller_live script list r told same within is =
     let t = told.told in
     subst (λ (l : List Mark). AreLive script l (rolled_upto r) r.rolled.tree) (sym t.begins)
-    (opened_live script told.opened t.past r told.good (sym (ap setting_of t.begins) ∙ same) (subst OpensStanding t.begins standing) (subst (λ (l : List Mark). rolled_upto r ≤ len_of l) t.begins within) (subst (λ (l : List Mark). IsRollerOf l (rolled_upto r) r) t.begins is))
+    (opened_live script told.opened t.past r told.good (sym (ap setting_of t.begins) ∙ same) (subst (λ (l : List Mark). rolled_upto r ≤ len_of l) t.begins within) (subst (λ (l : List Mark). IsRollerOf l (rolled_upto r) r) t.begins is))
 
 pub roller_at : (list : List Mark) (at : ℕ) (r : Roll) → IsRollerOf list at r → rolled_upto r ≡ at
 roller_at [] at r is = absurd is
@@ -94,9 +94,9 @@ boards_within list server told = board_low (IsBoardAt told.opened (len_of list))
 -- ---- a begun program
 
 -- what a pass has seen before a client began, its log and boards
-pub begun_live : (script : Workload) (seen list now : List Mark) (client snap : ℕ) (r : Roll) → IsTold seen → IsPrefix seen list → now ≡ list ++ Happened (Begin client) [] ∷ [] → IsTold now → setting_of now ≡ script_setting script → OpensStanding now
+pub begun_live : (script : Workload) (seen list now : List Mark) (client snap : ℕ) (r : Roll) → IsTold seen → IsPrefix seen list → now ≡ list ++ Happened (Begin client) [] ∷ [] → IsTold now → setting_of now ≡ script_setting script
     → snap ≡ board_at client list → IsRollerOf list snap r → AreLive script now snap r.rolled.tree
-begun_live script seen list now client snap r told p e told' same standing board is =
+begun_live script seen list now client snap r told p e told' same board is =
     let o = told.opened in
     let past : List Mark = told.told.past ++ p.0 in
     let begins : list ≡ Opened o ∷ past = sym p.1 ∙ ap (λ (l : List Mark). l ++ p.0) told.told.begins in
@@ -108,4 +108,4 @@ begun_live script seen list now client snap r told p e told' same standing board
     let within : rolled_upto r ≤ len_of list = omega (arith, low, board, upto, ap length log) in
     let there : IsPrefix list now = (Happened (Begin client) [] ∷ [], sym e) in
     let further = roller_more list now r there within (subst (λ n. IsRollerOf list n r) (sym upto) is) in
-    subst (λ n. AreLive script now n r.rolled.tree) upto (roller_live script now r told' same standing (omega (arith, within, ap length log)) further)
+    subst (λ n. AreLive script now n r.rolled.tree) upto (roller_live script now r told' same (omega (arith, within, ap length log)) further)

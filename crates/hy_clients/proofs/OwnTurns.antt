@@ -58,32 +58,6 @@ own_is pass list c p all =
     all_made (is_mark_of c) 0 pass.seen p.0 pass.mask (λ k x e y. let same : k ≡ 0 + k = omega arith in subst (λ n. at_place n (made pass) ≡ Some x) same (all k x (ap (λ l. slice_get l k) (sym p.1) ∙ e) y))
     ∙ ap (own_from c 0) p.1
 
--- ---- what is served on a list is so on a longer one
-
-before_same : (xs ys : List Mark) (k : ℕ) → IsPrefix xs ys → k ≤ length xs → take k xs ≡ take k ys
-before_same xs ys k p within = sym (take-append-le k xs p.0 within) ∙ ap (take k) p.1
-
-served_on : (script : Workload) (c number : ℕ) (xs ys : List Mark) (first last : ℕ × Mark) (t : Answered) → IsPrefix xs ys → IsServed script c number xs first last t → IsServed script c number ys first last t
-served_on script c number xs ys first last t p is =
-    let start : take first.0 xs ≡ take first.0 ys = before_same xs ys first.0 p (omega (arith, is.order, is.within)) in
-    let end : take last.0 xs ≡ take last.0 ys = before_same xs ys last.0 p is.within in
-    let longer : length xs ≤ length ys = omega (arith, ap length p.1, length-append xs p.0) in record {
-      within = omega (arith, is.within, longer);
-      order = is.order;
-      begins = is.begins;
-      snap = is.snap ∙ ap (board_at c) start;
-      ends = subst (λ (l : List Mark). EndsProgram script c t.snap (effects_on script (state_of l).log c number t.snap) last.1) end is.ends;
-      ends_as = subst (λ (l : List Mark). EndsAs (length (state_of l).log) last.1 t.end) end is.ends_as;
-      answers = is.answers ∙ ap (λ (l : List Mark). answers_given script (state_of l).log c number t.snap) end;
-    }
-
-pub are_served_on : (script : Workload) (c number : ℕ) (xs ys : List Mark) (turns : List (ℕ × Mark)) (told : List Answered) → IsPrefix xs ys → AreServed script c number xs turns told → AreServed script c number ys turns told
-are_served_on script c number xs ys [] [] p are = tt
-are_served_on script c number xs ys [] (t ∷ told) p are = absurd are
-are_served_on script c number xs ys (first ∷ []) told p are = absurd are
-are_served_on script c number xs ys (first ∷ (last ∷ turns)) [] p are = absurd are
-are_served_on script c number xs ys (first ∷ (last ∷ turns)) (t ∷ told) p are = (served_on script c number xs ys first last t p are.0, are_served_on script c (number + 1) xs ys turns told p are.1)
-
 -- ---- two turns a program
 
 turn_count : (script : Workload) (c number : ℕ) (list : List Mark) (turns : List (ℕ × Mark)) (told : List Answered) → AreServed script c number list turns told → length turns ≡ 2 * length told

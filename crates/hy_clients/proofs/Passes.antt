@@ -21,15 +21,9 @@ use Rattle.hy_hub.specs.declared.mark.Mark.TheVariants.{Opened, Happened, Halted
 use Rattle.hy_hub.specs.Trace.{setting_of}
 use Rattle.hy_hub.specs.Calls.{OneTurn, IsIdle, IsEntryOf, is_declared_client}
 use Rattle.hy_base.proofs.NthLemmas.{nth_map, nth_within, All-nth}
-use Rattle.hy_clients.specs.Passing.{OpensStanding, IsRunPass}
+use Rattle.hy_clients.specs.Passing.{IsRunPass}
 use Rattle.hy_clients.specs.Serving.{IsClient}
 use Rattle.hy_clients.proofs.Turning.{grows}
-
-pub opens_more : (xs ys : List Mark) → IsPrefix xs ys → OpensStanding xs → OpensStanding ys
-opens_more [] ys p standing = absurd standing
-opens_more (Opened o ∷ xs) ys p standing = subst OpensStanding p.1 standing
-opens_more (Happened event added ∷ xs) ys p standing = absurd standing
-opens_more (Halted at ∷ xs) ys p standing = absurd standing
 
 -- a turn leaves a pass of the run one
 pub runs_on : (lock : Lock) (script : Workload) (all : ℕ) (old new : Known Mark) (does : List Mark → List Mark → Type 0) → OneTurn all old new does → setting_of new.seen ≡ setting_of old.seen → IsIdle lock new → IsRunPass lock script old
@@ -38,7 +32,6 @@ runs_on lock script all old new does turn same idle run = record {
   idle = idle;
   told = turn.told;
   setting_is = same ∙ run.setting_is;
-  standing = opens_more old.seen new.seen (grows 0 all old new does turn) run.standing;
 }
 
 -- ---- what is declared

@@ -17,6 +17,7 @@ use Rattle.hy_hub.specs.declared.mark.Mark.TheVariants.{Happened}
 use Rattle.hy_hub.specs.Trace.{state_of, setting_of}
 use Rattle.hy_hub.specs.Calls.{board_at}
 use Rattle.hy_clients.specs.declared.answered.Answered.{Answered}
+use Rattle.hy_clients.specs.Passing.{OpensStanding}
 use Rattle.hy_clients.specs.Programs.{AreServed, IsServed, EndsProgram, EndsAs, effects_on, answers_given}
 use Rattle.hy_clients.specs.Served.{ended_of}
 use Rattle.hy_clients.proofs.Sessions.{nth_changed, is_idle}
@@ -27,10 +28,11 @@ use Rattle.hy_clients.proofs.Answering.{AreAnswered, answer_grows}
 abbrev pub Fits : Workload → State → Event → List EntryKind → Type 0
 Fits script s event added = (suits script s event ≡ true) × (added ≡ entries script s event)
 
--- the list up to a place leads to this state
+-- the list up to a place leads to this state, and its first roller stood
 pub record IsAt (script : Workload) (list : List Mark) (k : ℕ) (s : State) : Type 0 where
   pub state : state_of (take k list) ≡ s
   pub setting : setting_of (take k list) ≡ script_setting script
+  pub stood : OpensStanding list
 
 -- the next turn ends the program of this number, which was begun on this snapshot
 abbrev pub Works : Workload → ℕ → ℕ → List Mark → ℕ → List (ℕ × Mark) → List Answered → Type 0
@@ -101,14 +103,14 @@ pub closing : (script : Workload) (c number : ℕ) (s : State) (snap : ℕ) (lis
 closing script c number s snap list k mark turns [] here works = absurd works
 closing script c number s snap list k mark turns (t ∷ left) here works =
     let is : IsServed script c number list works.0 (k, mark) t = works.2 in
-    let ends : EndsProgram script c t.snap (effects_on script s.log c number t.snap) mark = subst (λ (z : State). EndsProgram script c t.snap (effects_on script z.log c number t.snap) mark) here.state is.ends in record {
+    let ends : EndsProgram script c t.snap (effects_on script s.log c number t.snap) mark = subst (λ (z : State). EndsProgram script c t.snap (effects_on script z.log c number t.snap) mark) here.state (is.ends here.stood) in record {
       t = t;
       left = left;
       told_is = refl;
       snap_is = works.1;
       ends = subst (λ (n : ℕ). EndsProgram script c n (effects_on script s.log c number n) mark) works.1 ends;
       ends_as = subst (λ (z : State). EndsAs (length z.log) mark t.end) here.state is.ends_as;
-      answers = is.answers ∙ ap (λ (z : State). answers_given script z.log c number t.snap) here.state;
+      answers = is.answers here.stood ∙ ap (λ (z : State). answers_given script z.log c number t.snap) here.state;
       rest = works.3;
     }
 

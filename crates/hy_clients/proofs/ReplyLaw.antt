@@ -108,17 +108,17 @@ as_many script list number (c ∷ clients) [] all = absurd all
 as_many script list number (c ∷ clients) (t ∷ told) all = ap suc (as_many script list (number + 1) clients told all.1)
 
 pub replies_law : RepliesAreTold
-replies_law script list told script_is is same all =
+replies_law script list told script_is is same all stood =
     let w = script_setting script in
     let start : State = opening w is.opened.found in
     let log : List EntryKind = (state_of list).log in
     let vs : List (Option Verdict) = verdicts script.shape log (length log) in
     let done : List Ended = ended_in script start (events_of list) in
-    let done_is : done ≡ endings script start is.told.past = ap (λ (l : List Mark). ended_in script start (events_of l)) is.told.begins ∙ ends_are script start is.told.past (moves_are script list is same) (fit_is script list told is same all) in
+    let done_is : done ≡ endings script start is.told.past = ap (λ (l : List Mark). ended_in script start (events_of l)) is.told.begins ∙ ends_are script start is.told.past (moves_are script list is same) (fit_is script list told is same all stood) in
     each_reply (λ p. replies_to script log done p.0 p.1) (filter_map (reply_by vs)) 1 script.clients told (as_many script list 1 script.clients told all) (λ k client n e h.
     let number : suc k ≡ n = omega (arith, e) in
     let by = client_told script list told all (suc k) client h in
-    let walk = walked script list is same (suc k) client by.0 h by.2 in
+    let walk = walked script list is same (suc k) client by.0 stood h by.2 in
     let answers : AreAnswered script log (suc k) 1 by.0 = subst (λ (s : State). AreAnswered script s.log (suc k) 1 by.0) (sym (state_is script list is same)) walk.answers in
     let ends : filter (is_end_of (suc k)) done ≡ ends_of (suc k) 1 by.0 = ap (filter (is_end_of (suc k))) done_is ∙ walk.ended in
     let here : replies_to script log done (suc k) client ≡ filter_map (reply_by vs) by.0 = replies_same script log vs (suc k) done 1 by.0 client.programs by.2.whole answers (λ m le.

@@ -3,6 +3,7 @@ use Rattle.std.proofs.Common.{◌≡◌, ℕ, zero, suc, ◌+◌, List, [], ◌�
 use Rattle.std.specs.Prelude.{Some, slice_get}
 use Rattle.std.specs.List.{list_any}
 use Rattle.hy_base.specs.declared.workload.Client.{Client}
+use Rattle.hy_base.specs.declared.workload.Event.{Event}
 use Rattle.hy_base.specs.declared.workload.Home.{Home}
 use Rattle.hy_base.specs.declared.workload.Session.{Session}
 use Rattle.hy_base.specs.declared.workload.Phase.TheVariants.{Idle}
@@ -18,12 +19,14 @@ use Rattle.hy_base.proofs.NthLemmas.{nth_map}
 use Rattle.hy_hub.proofs.Told.{told_setting}
 use Rattle.hy_clients.specs.declared.answered.Answered.{Answered}
 use Rattle.hy_clients.specs.Programs.{AreServed}
-use Rattle.hy_clients.specs.Passing.{own_turns}
+use Rattle.hy_clients.specs.Passing.{OpensStanding, own_turns}
+use Rattle.hy_clients.specs.Finished.{LeadTo}
 use Rattle.hy_clients.specs.Served.{IsServedBy, AllServed, ServedListsAreRuns}
-use Rattle.hy_clients.proofs.OwnTurns.{own_from, own_is, are_served_on, made_twice}
+use Rattle.hy_clients.proofs.OwnTurns.{own_from, own_is, made_twice}
+use Rattle.hy_clients.proofs.Series.{are_served_later}
 use Rattle.hy_clients.proofs.Steady.{opens_steady}
 use Rattle.hy_clients.proofs.Walk.{IsWalked, walk}
-use Rattle.hy_clients.proofs.Running.{AreFit, runs, no_stops, all_fit, all_done}
+use Rattle.hy_clients.proofs.Running.{AreFit, runs, moves as moves_on, no_stops, all_fit, all_done}
 
 abbrev home_of : Client → Home
 home_of client = record { server = client.server; programs = length client.programs }
@@ -70,17 +73,17 @@ module _ (script : Workload) (list : List Mark) (is : IsTold list) (same : setti
       (task.0, own_is by.pass list c by.seen task.1)
 
   -- each client's turns along the list
-  pub walked : (c : ℕ) (client : Client) (t : List Answered) → nth script.clients c ≡ Some client → IsServedBy script list c client t → IsWalked script c (opening (script_setting script) is.opened.found) is.told.past fresh_session t
-  walked c client t e by =
+  pub walked : (c : ℕ) (client : Client) (t : List Answered) → OpensStanding list → nth script.clients c ≡ Some client → IsServedBy script list c client t → IsWalked script c (opening (script_setting script) is.opened.found) is.told.past fresh_session t
+  walked c client t stood e by =
       let own : own_turns c by.pass ≡ own_from c 1 is.told.past = (tasks_are c client t e by).1 ∙ ap (own_from c 0) is.told.begins in
-      let are : AreServed script c 1 list (own_from c 1 is.told.past) t = subst (λ (turns : List (ℕ × Mark)). AreServed script c 1 list turns t) own (are_served_on script c 1 by.pass.seen list (own_turns c by.pass) t by.seen by.served) in
+      let are : AreServed script c 1 list (own_from c 1 is.told.past) t = subst (λ (turns : List (ℕ × Mark)). AreServed script c 1 list turns t) own (are_served_later script c 1 by.pass.seen list (own_turns c by.pass) t by.seen by.served) in
       let first : nth (opening (script_setting script) is.opened.found).sessions c ≡ Some fresh_session = nth_map (λ (h : Home). fresh_session) (script_setting script).homes c (home_of client) (nth_map home_of script.clients c client e) in
-      walk script c is.opened list [] is.told.past 1 (opening (script_setting script) is.opened.found) fresh_session t setting_is is.told.begins refl (ap (λ (w : Setting). opening w is.opened.found) setting_is) moves_are
+      walk script c is.opened list [] is.told.past 1 (opening (script_setting script) is.opened.found) fresh_session t stood setting_is is.told.begins refl (ap (λ (w : Setting). opening w is.opened.found) setting_is) moves_are
       (opens_steady (script_setting script) is.opened.found) first (λ snap q. absurd (cc q)) are
 
-pub fit_is : (script : Workload) (list : List Mark) (told : List (List Answered)) (is : IsTold list) (same : setting_of list ≡ script_setting script) → AllServed script list 1 script.clients told → AreFit script (opening (script_setting script) is.opened.found) is.told.past
-fit_is script list told is same all =
-    all_fit script (opening (script_setting script) is.opened.found) is.told.past (moves_are script list is same) (λ c client e. let by = client_told script list told all c client e in (walked script list is same c client by.0 e by.2).fits)
+pub fit_is : (script : Workload) (list : List Mark) (told : List (List Answered)) (is : IsTold list) (same : setting_of list ≡ script_setting script) → AllServed script list 1 script.clients told → OpensStanding list → AreFit script (opening (script_setting script) is.opened.found) is.told.past
+fit_is script list told is same all stood =
+    all_fit script (opening (script_setting script) is.opened.found) is.told.past (moves_are script list is same) (λ c client e. let by = client_told script list told all c client e in (walked script list is same c client by.0 stood e by.2).fits)
 
 done_each : (script : Workload) (list : List Mark) (told : List (List Answered)) (is : IsTold list) (same : setting_of list ≡ script_setting script) → AllServed script list 1 script.clients told
     → (k : ℕ) (h : Home) → slice_get (script_setting script).homes k ≡ Some h → (x : Session) × (slice_get (state_of list).sessions k ≡ Some x) × (x.next ≡ h.programs + 1) × (x.phase ≡ Idle)
@@ -101,7 +104,8 @@ runs_law script list told script_is is same all =
     let start : State = opening w is.opened.found in
     let moves = moves_are script list is same in
     let events : events_of list ≡ events_of is.told.past = ap events_of is.told.begins in record {
-      leads = ap (run script start) events ∙ (runs script start is.told.past moves (fit_is script list told is same all) ∙ ap Some (sym (state_is script list is same)));
+      moves = subst (λ (z : State). LeadTo w start (events_of list) z) (sym (state_is script list is same)) (subst (λ (es : List Event). LeadTo w start es (led w start is.told.past)) (sym events) (moves_on w start is.told.past moves));
       calm = ap (list_any is_stop) events ∙ no_stops w start is.told.past moves;
       done = all_done w.homes (state_of list).sessions (done_each script list told is same all);
+      leads = λ stood. ap (run script start) events ∙ (runs script start is.told.past moves (fit_is script list told is same all stood) ∙ ap Some (sym (state_is script list is same)));
     }

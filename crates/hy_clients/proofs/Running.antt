@@ -20,6 +20,7 @@ use Rattle.hy_hub.specs.declared.mark.Mark.TheVariants.{Opened, Happened, Halted
 use Rattle.hy_hub.specs.Trace.{is_stop, led, AreMoves}
 use Rattle.hy_hub.specs.Calls.{events_of}
 use Rattle.hy_base.proofs.NthLemmas.{left_of, both}
+use Rattle.hy_clients.specs.Finished.{LeadTo}
 use Rattle.hy_clients.proofs.Sessions.{known_client}
 use Rattle.hy_clients.proofs.Progress.{Fits}
 use Rattle.hy_clients.proofs.Walk.{AreFitOf}
@@ -49,6 +50,13 @@ no_stops w s [] all = refl
 no_stops w s (Opened o ∷ marks) all = absurd all
 no_stops w s (Halted at ∷ marks) all = no_stops w s marks all
 no_stops w s (Happened event added ∷ marks) all = rw all.1 (no_stops w (after w s event added) marks all.2)
+
+-- each event is a move
+pub moves : (w : Setting) (s : State) (marks : List Mark) → AreMoves w s marks → LeadTo w s (events_of marks) (led w s marks)
+moves w s [] all = refl
+moves w s (Opened o ∷ marks) all = absurd all
+moves w s (Halted at ∷ marks) all = moves w s marks all
+moves w s (Happened event added ∷ marks) all = (added, all.0, moves w (after w s event added) marks all.2)
 
 -- ---- each event is of a client that was served, or of none
 

@@ -12,6 +12,7 @@ use Rattle.hy_clients.specs.declared.answered.Answered.{Answered}
 use Rattle.hy_clients.specs.Passing.{own_turns, GoesOn}
 use Rattle.hy_clients.specs.Programs.{IsServed, AreServed, EndsProgram, EndsAs, before, effects_on, answers_given}
 use Rattle.hy_clients.specs.Serving.{Begins, Ends, Serves}
+use Rattle.hy_clients.proofs.Openings.{stood_before}
 use Rattle.hy_clients.proofs.Turning.{prefix_length, take_same, goes_further, next_after}
 
 -- ---- after turns that are not the client's
@@ -25,10 +26,11 @@ ends_after script client number a b c told g is = record { turn = is.turn; next 
 -- ---- one program
 
 -- a program that was begun and then ended was served
-pub serves : (script : Workload) (client number : ℕ) (old mid new : Known Mark) (begun : Begun) (told : Answered) → Begins script client old mid begun → told.snap ≡ begun.snap → Ends script client number mid new told → Serves script client number old new told
-serves script client number old mid new begun told b snap e =
+pub serves : (script : Workload) (client number : ℕ) (old mid new : Known Mark) (begun : Begun) (told : Answered) → Begins script client old mid begun → 0 < length old.seen → told.snap ≡ begun.snap → Ends script client number mid new told → Serves script client number old new told
+serves script client number old mid new begun told b some snap e =
     let first : ℕ × Mark = b.turn in
     let last : ℕ × Mark = e.turn in
+    let after : length old.seen ≤ first.0 = b.next.behind in
     let within : first.0 < length mid.seen = b.next.within in
     let behind : length mid.seen ≤ last.0 = e.next.behind in
     let inside : last.0 < length new.seen = e.next.within in
@@ -38,6 +40,7 @@ serves script client number old mid new begun told b snap e =
       last = last;
       goes = goes_further client old mid new (first ∷ []) (last ∷ []) b.next.goes e.next.goes;
       served = record {
+        past = omega (arith, some, after);
         within = omega (arith, inside);
         order = omega (arith, within, behind);
         begins = b.begins;
@@ -48,10 +51,10 @@ serves script client number old mid new begun told b snap e =
       };
     }
 
-pub serve_tells : {E : Type 0} (script : Workload) (client number : ℕ) (old mid new : Known Mark) (begun : Begun) (answer : Result Answered E) → Begins script client old mid begun → IfOk answer (λ told. told.snap ≡ begun.snap) → IfOk answer (Ends script client number mid new)
+pub serve_tells : {E : Type 0} (script : Workload) (client number : ℕ) (old mid new : Known Mark) (begun : Begun) (answer : Result Answered E) → Begins script client old mid begun → 0 < length old.seen → IfOk answer (λ told. told.snap ≡ begun.snap) → IfOk answer (Ends script client number mid new)
     → IfOk answer (Serves script client number old new)
-serve_tells script client number old mid new begun (Ok told) b snap e = serves script client number old mid new begun told b snap e
-serve_tells script client number old mid new begun (Err error) b snap e = tt
+serve_tells script client number old mid new begun (Ok told) b some snap e = serves script client number old mid new begun told b some snap e
+serve_tells script client number old mid new begun (Err error) b some snap e = tt
 
 -- ---- lists of them
 
@@ -62,14 +65,17 @@ module _ (script : Workload) (client : ℕ) where
       let order : first.0 ≤ last.0 = is.order in
       let opens : before ys first ≡ before xs first = take_same xs ys first.0 p (omega (arith, within, order)) in
       let closes : before ys last ≡ before xs last = take_same xs ys last.0 p within in
+      let past : 0 < first.0 = is.past in
+      let earlier = stood_before xs ys (omega (arith, within, order, past)) p in
       record {
+        past = past;
         within = omega (arith, within, prefix_length xs ys p);
         order = order;
         begins = is.begins;
         snap = is.snap ∙ sym (ap (board_at client) opens);
-        ends = subst (λ (l : List Mark). EndsProgram script client told.snap (effects_on script (state_of l).log client number told.snap) last.1) (sym closes) is.ends;
+        ends = λ stood. subst (λ (l : List Mark). EndsProgram script client told.snap (effects_on script (state_of l).log client number told.snap) last.1) (sym closes) (is.ends (earlier stood));
         ends_as = subst (λ (l : List Mark). EndsAs (length (state_of l).log) last.1 told.end) (sym closes) is.ends_as;
-        answers = is.answers ∙ sym (ap (λ (l : List Mark). answers_given script (state_of l).log client number told.snap) closes);
+        answers = λ stood. is.answers (earlier stood) ∙ sym (ap (λ (l : List Mark). answers_given script (state_of l).log client number told.snap) closes);
       }
 
   -- they were served as the list goes on

@@ -1,7 +1,7 @@
 -- Turns of a pass, and which of them are a client's.
-use Rattle.std.proofs.Common.{◌≡◌, ℕ, ◌+◌, ◌-◌, ◌≤◌, true, false, List, [], ◌∷◌, ◌++◌, length, take, refl, ap, sym, ◌∙◌, arith, append_assoc, length-append}
+use Rattle.std.proofs.Common.{◌≡◌, ℕ, ◌+◌, ◌-◌, ◌≤◌, true, false, List, [], ◌∷◌, ◌++◌, length, take, drop, refl, ap, sym, ◌∙◌, arith, append_assoc, length-append}
 use Rattle.std.specs.Prelude.{filter, if◌then◌else◌}
-use Rattle.std.proofs.lemmas.List.{append-nil, take-append-le}
+use Rattle.std.proofs.lemmas.List.{append-nil, take-append-drop, take-append-le}
 use Rattle.std.proofs.lemmas.List.Elements.{filter-append}
 use Rattle.std.proofs.Math.Seq.{take-append_seam, take-append-add}
 use mathlib.Core.List.{IsPrefix}
@@ -22,6 +22,10 @@ pub prefix_take : (xs ys : List Mark) (n : ℕ) → IsPrefix xs ys → length xs
 prefix_take xs ys n p behind =
     let sum : length xs + (n - length xs) ≡ n = omega (arith, behind) in
     (take (n - length xs) p.0, sym (take-append-add xs p.0 (n - length xs)) ∙ (ap (λ k. take k (xs ++ p.0)) sum ∙ ap (take n) p.1))
+
+-- the list begins with what is before a place
+pub take_prefix : (xs : List Mark) (n : ℕ) → IsPrefix (take n xs) xs
+take_prefix xs n = (drop n xs, take-append-drop n xs)
 
 -- the list before a place stays the same as the list goes on
 pub take_same : (xs ys : List Mark) (n : ℕ) → IsPrefix xs ys → n ≤ length xs → take n ys ≡ take n xs

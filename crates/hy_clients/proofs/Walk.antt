@@ -20,6 +20,7 @@ use Rattle.hy_hub.specs.Trace.{is_stop, setting, led, AreMoves, state_of, settin
 use Rattle.hy_hub.specs.Turns.{is_event_of}
 use Rattle.hy_hub.proofs.Told.{led_event, led_halt}
 use Rattle.hy_clients.specs.declared.answered.Answered.{Answered}
+use Rattle.hy_clients.specs.Passing.{OpensStanding}
 use Rattle.hy_clients.proofs.OwnTurns.{own_from}
 use Rattle.hy_clients.proofs.Sessions.{others_keep}
 use Rattle.hy_clients.proofs.Steady.{IsSteady, stays_steady, log_after, log_led}
@@ -74,31 +75,32 @@ module _ (script : Workload) (c : ℕ) (list : List Mark) (k : ℕ) (s : State) 
         answers = t.answers (led w (after w s event added) marks).log grows rest.answers;
       }
 
-is_at : (script : Workload) (o : Opening) (list front rest : List Mark) (k : ℕ) (s : State) → setting o ≡ script_setting script → list ≡ Opened o ∷ (front ++ rest) → suc (length front) ≡ k → led (setting o) (opening (setting o) o.found) front ≡ s → IsAt script list k s
-is_at script o list front rest k s w is place leads =
+is_at : (script : Workload) (o : Opening) (list front rest : List Mark) (k : ℕ) (s : State) → setting o ≡ script_setting script → list ≡ Opened o ∷ (front ++ rest) → suc (length front) ≡ k → led (setting o) (opening (setting o) o.found) front ≡ s → OpensStanding list → IsAt script list k s
+is_at script o list front rest k s w is place leads stood =
     let front_is : take k list ≡ Opened o ∷ front = ap (λ n. take n list) (sym place) ∙ (ap (take (suc (length front))) is ∙ ap (λ (l : List Mark). Opened o ∷ l) (take-append_seam front rest)) in record {
       state = subst (λ (l : List Mark). state_of l ≡ s) (sym front_is) leads;
       setting = subst (λ (l : List Mark). setting_of l ≡ script_setting script) (sym front_is) w;
+      stood = stood;
     }
 
-pub walk : (script : Workload) (c : ℕ) (o : Opening) (list front marks : List Mark) (k : ℕ) (s : State) (x : Session) (told : List Answered) → setting o ≡ script_setting script
+pub walk : (script : Workload) (c : ℕ) (o : Opening) (list front marks : List Mark) (k : ℕ) (s : State) (x : Session) (told : List Answered) → OpensStanding list → setting o ≡ script_setting script
     → list ≡ Opened o ∷ (front ++ marks) → suc (length front) ≡ k → led (setting o) (opening (setting o) o.found) front ≡ s → AreMoves (script_setting script) s marks → IsSteady s → nth s.sessions c ≡ Some x
     → ((snap : ℕ) → x.phase ≡ Begun snap → snap ≤ length s.log) → Goes script c x.next list x.phase (own_from c k marks) told → IsWalked script c s marks x told
-walk script c o list front [] k s x told w is place leads all steady at within goes =
+walk script c o list front [] k s x told stood w is place leads all steady at within goes =
     let none : told ≡ [] = none_left script c x.next list x.phase told goes in record {
       fits = tt;
       ended = ap (ends_of c x.next) (sym none);
       answers = subst (λ (l : List Answered). AreAnswered script s.log c x.next l) (sym none) tt;
     }
-walk script c o list front (Opened o' ∷ marks) k s x told w is place leads all steady at within goes = absurd all
-walk script c o list front (Halted h ∷ marks) k s x told w is place leads all steady at within goes =
-    let rest = walk script c o list (front ++ Halted h ∷ []) marks (suc k) s x told w (is ∙ ap (λ (l : List Mark). Opened o ∷ l) (sym (append_assoc front (Halted h ∷ []) marks))) (omega (arith, place, length-append front (Halted h ∷ [])))
+walk script c o list front (Opened o' ∷ marks) k s x told stood w is place leads all steady at within goes = absurd all
+walk script c o list front (Halted h ∷ marks) k s x told stood w is place leads all steady at within goes =
+    let rest = walk script c o list (front ++ Halted h ∷ []) marks (suc k) s x told stood w (is ∙ ap (λ (l : List Mark). Opened o ∷ l) (sym (append_assoc front (Halted h ∷ []) marks))) (omega (arith, place, length-append front (Halted h ∷ [])))
     (led_halt (setting o) (opening (setting o) o.found) front h ∙ leads) all steady at within goes in
     record { fits = rest.fits; ended = rest.ended; answers = rest.answers }
-walk script c o list front (Happened event added ∷ marks) k s x told w is place leads all steady at within goes =
+walk script c o list front (Happened event added ∷ marks) k s x told stood w is place leads all steady at within goes =
     let next : State = after (script_setting script) s event added in
     let leads_on : led (setting o) (opening (setting o) o.found) (front ++ Happened event added ∷ []) ≡ next = led_event (setting o) (opening (setting o) o.found) front event added ∙ (λ i. after (w i) (leads i) event added) in
-    one_mark script c list k s event added marks x told (is_at script o list front (Happened event added ∷ marks) k s w is place leads) steady all.0 all.1 at within (log_led (script_setting script) s (Happened event added ∷ marks) all steady.calm)
-    (λ y left at' within' goes'. walk script c o list (front ++ Happened event added ∷ []) marks (suc k) next y left w (is ∙ ap (λ (l : List Mark). Opened o ∷ l) (sym (append_assoc front (Happened event added ∷ []) marks)))
+    one_mark script c list k s event added marks x told (is_at script o list front (Happened event added ∷ marks) k s w is place leads stood) steady all.0 all.1 at within (log_led (script_setting script) s (Happened event added ∷ marks) all steady.calm)
+    (λ y left at' within' goes'. walk script c o list (front ++ Happened event added ∷ []) marks (suc k) next y left stood w (is ∙ ap (λ (l : List Mark). Opened o ∷ l) (sym (append_assoc front (Happened event added ∷ []) marks)))
     (omega (arith, place, length-append front (Happened event added ∷ []))) leads_on all.2 (stays_steady (script_setting script) s event added all.0.may_happen all.1 steady) at' within' goes')
     (is_event_of c event) refl goes

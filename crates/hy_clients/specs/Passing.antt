@@ -4,7 +4,7 @@ use mathlib.Core.List.{IsPrefix}
 use Rattle.hy_hist.specs.Passes.{Lock, Known, made}
 use Rattle.hy_base.specs.declared.record.EntryKind.{EntryKind}
 use Rattle.hy_base.specs.Script.{Workload}
-use Rattle.hy_rules.specs.Rolling.{rolled_upto, Stands}
+use Rattle.hy_rules.specs.Rolling.{Roll, rolled_upto, new_roll, Stands}
 use Rattle.hy_rules.specs.Runs.{setting_of as script_setting}
 use Rattle.hy_hub.specs.declared.mark.Mark.{Mark}
 use Rattle.hy_hub.specs.declared.mark.Mark.TheVariants.{Opened, Happened, Halted}
@@ -13,14 +13,7 @@ use Rattle.hy_hub.specs.Hub.{IsTold}
 use Rattle.hy_hub.specs.Calls.{IsIdle}
 use Rattle.hy_hub.specs.Turns.{is_mark_of}
 
--- the roller of the opening stands for the entries that it has rolled
-abbrev pub OpensStanding : List Mark → Type 0
-OpensStanding [] = ⊥
-OpensStanding (Opened o ∷ marks) = Stands (take (rolled_upto o.start) o.found) o.start
-OpensStanding (Happened event added ∷ marks) = ⊥
-OpensStanding (Halted at ∷ marks) = ⊥
-
--- the log that the hub was made on, and the device's count of faults then
+-- the log and the roller that the hub was made on, and the device's count of faults then
 abbrev pub opened_log : List Mark → List EntryKind
 opened_log [] = []
 opened_log (Opened o ∷ marks) = o.found
@@ -33,12 +26,25 @@ opened_faults (Opened o ∷ marks) = o.faults
 opened_faults (Happened event added ∷ marks) = 0
 opened_faults (Halted at ∷ marks) = 0
 
+abbrev pub opened_start : List Mark → Roll
+opened_start [] = new_roll (setting_of []).shape
+opened_start (Opened o ∷ marks) = o.start
+opened_start (Happened event added ∷ marks) = new_roll (setting_of []).shape
+opened_start (Halted at ∷ marks) = new_roll (setting_of []).shape
+
+-- the roller of the opening stands for the entries that it has rolled
+abbrev pub OpensStanding : List Mark → Type 0
+OpensStanding list = Stands (take (rolled_upto (opened_start list)) (opened_log list)) (opened_start list)
+
+-- it keeps the verdicts of all positions past the log of the opening
+abbrev pub OpensInLog : List Mark → Type 0
+OpensInLog list = (opened_start list).from ≤ length (opened_log list)
+
 -- A pass of a hub that runs a script, between two calls.
 pub record IsRunPass (lock : Lock) (script : Workload) (pass : Known Mark) : Type 0 where
   pub idle : IsIdle lock pass
   pub told : IsTold pass.seen
   pub setting_is : setting_of pass.seen ≡ script_setting script
-  pub standing : OpensStanding pass.seen
 
 -- the turns of a client that the pass took, with their places
 abbrev pub own_turns : ℕ → Known Mark → List (ℕ × Mark)

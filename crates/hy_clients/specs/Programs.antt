@@ -1,5 +1,5 @@
 -- What the programs of a client come to, one after another.
-use Rattle.std.specs.Prelude.{◌≡◌, ℕ, ◌+◌, ◌≤◌, Bool, true, false, List, [], ◌∷◌, length, Option, option_map, option_to_list, nat_lt, take, ⊤}
+use Rattle.std.specs.Prelude.{◌≡◌, ℕ, ◌+◌, ◌<◌, ◌≤◌, Bool, true, false, List, [], ◌∷◌, length, Option, option_map, option_to_list, nat_lt, take, ⊤}
 use Rattle.std.specs.Option.{option_map_or}
 use Rattle.hy_base.specs.declared.record.EntryKind.{EntryKind}
 use Rattle.hy_base.specs.declared.record.EntryKind.TheVariants.{Txn}
@@ -13,6 +13,7 @@ use Rattle.hy_hub.specs.declared.mark.Mark.{Mark}
 use Rattle.hy_hub.specs.declared.mark.Mark.TheVariants.{Opened, Happened, Halted}
 use Rattle.hy_hub.specs.Trace.{state_of}
 use Rattle.hy_hub.specs.Calls.{board_at}
+use Rattle.hy_clients.specs.Passing.{OpensStanding}
 use Rattle.hy_clients.specs.declared.answered.Answered.{Answered}
 use Rattle.hy_clients.specs.declared.answered.End as end
 use Rattle.hy_clients.specs.declared.answered.End.TheVariants.{Reading, EntryAt, FullLog}
@@ -65,15 +66,17 @@ EndsAs len (Happened (Stop call pattern) added) told = ⊥
 abbrev pub before : List Mark → ℕ × Mark → List Mark
 before list turn = take turn.0 list
 
--- Two turns of a client, at their places in the list: its program of this number begins on its server's board, and ends as that program does on this snapshot. This is what the client is told of it.
+-- Two turns of a client, at their places in the list: its program of this number begins on its server's board, and ends; the client is told how, and of its snapshot.
+-- Where the first roller stood, the program ends as it does on that snapshot, and its answers are those there.
 pub record IsServed (script : Workload) (client number : ℕ) (list : List Mark) (first last : ℕ × Mark) (told : Answered) : Type 0 where
+  pub past : 0 < first.0
   pub within : last.0 ≤ length list
   pub order : first.0 ≤ last.0
   pub begins : first.1 ≡ Happened (Begin client) []
   pub snap : told.snap ≡ board_at client (before list first)
-  pub ends : EndsProgram script client told.snap (effects_on script (state_of (before list last)).log client number told.snap) last.1
   pub ends_as : EndsAs (length (state_of (before list last)).log) last.1 told.end
-  pub answers : told.answers ≡ answers_given script (state_of (before list last)).log client number told.snap
+  pub ends : OpensStanding list → EndsProgram script client told.snap (effects_on script (state_of (before list last)).log client number told.snap) last.1
+  pub answers : OpensStanding list → told.answers ≡ answers_given script (state_of (before list last)).log client number told.snap
 
 -- The turns of a client are those of its programs, the first of which has this number, and that is what it is told of them.
 abbrev pub AreServed : Workload → ℕ → ℕ → List Mark → List (ℕ × Mark) → List Answered → Type 0

@@ -1,8 +1,29 @@
--- Verdicts that a roller keeps.
-use Rattle.std.specs.Prelude.{◌≡◌, length}
-use Rattle.hy_rules.specs.Rolling.{Roll, rolled_upto}
+-- The replies to the clients, by a roller.
+use Rattle.std.specs.Prelude.{ℕ, Option, Some, None, option_map}
+use Rattle.hy_base.specs.declared.record.Verdict.{Verdict}
+use Rattle.hy_base.specs.declared.report.Outcome.{Outcome}
+use Rattle.hy_base.specs.declared.report.Outcome.TheVariants.{Read, At, Full}
+use Rattle.hy_base.specs.declared.report.Reply.{Reply}
+use Rattle.hy_rules.specs.Rolling.{Roll}
+use Rattle.hy_pipe.specs.declared.roller.Told.{Told}
+use Rattle.hy_pipe.specs.declared.roller.Told.TheVariants.{Known, NotYet, Past}
+use Rattle.hy_pipe.specs.Telling.{told}
+use Rattle.hy_clients.specs.declared.answered.Answered.{Answered}
+use Rattle.hy_clients.specs.declared.answered.End as end
+use Rattle.hy_clients.specs.declared.answered.End.TheVariants.{Reading, EntryAt, FullLog}
 
--- a roller that keeps the verdicts of all positions that it has rolled
-pub record KeepsAll (r : Roll) : Type 0 where
-  pub from_first : r.from ≡ 0
-  pub count : length r.rolled.verdicts ≡ rolled_upto r
+-- a verdict that is told
+abbrev pub known : Told → Option Verdict
+known (Known verdict) = verdict
+known (NotYet at) = None
+known (Past from) = None
+
+-- what became of a program that ended so, by a roller
+abbrev pub outcome_by : Roll → ℕ → end.End → Option Outcome
+outcome_by r snap Reading = Some (Read snap)
+outcome_by r snap (EntryAt pos) = option_map (At pos) (known (told r pos))
+outcome_by r snap FullLog = Some Full
+
+-- the reply to a program, by a roller
+abbrev pub reply_on : Roll → Answered → Option Reply
+reply_on r t = option_map (λ outcome. record { answers = t.answers; outcome = outcome }) (outcome_by r t.snap t.end)

@@ -16,8 +16,9 @@ use Rattle.hy_hub.specs.Hub.{IsTold}
 use Rattle.hy_hub.specs.Calls.{events_of}
 use Rattle.hy_hub.specs.Laws.{EventsAreTasks}
 use Rattle.hy_clients.specs.declared.answered.Answered.{Answered}
+use Rattle.hy_clients.specs.Finished.{LeadTo}
 use Rattle.hy_clients.specs.Programs.{AreServed, ending_of}
-use Rattle.hy_clients.specs.Passing.{own_turns}
+use Rattle.hy_clients.specs.Passing.{OpensStanding, own_turns}
 
 -- A pass served the client with this number: all its programs, one after another. The list goes on from what the pass had seen.
 pub record IsServedBy (script : Workload) (list : List Mark) (number : ℕ) (client : Client) (told : List Answered) : Type 0 where
@@ -38,11 +39,12 @@ AllServed script list number (c ∷ clients) (t ∷ told) = IsServedBy script li
 abbrev pub found_in : (list : List Mark) → IsTold list → List EntryKind
 found_in list told = told.opened.found
 
--- What a list is whose clients were all served: a run of the script, without stops, in which every program is done.
+-- What a list is whose clients were all served: its events are moves, none is a stop, and every program is done. Where the first roller stood, it is a run of the script.
 pub record IsRun (script : Workload) (found : List EntryKind) (list : List Mark) : Type 0 where
-  pub leads : run script (opening_of script found) (events_of list) ≡ Some (state_of list)
+  pub moves : LeadTo (script_setting script) (opening_of script found) (events_of list) (state_of list)
   pub calm : list_any is_stop (events_of list) ≡ false
   pub done : list_all (λ p. is_done p.0 p.1) (zip (script_setting script).homes (state_of list).sessions) ≡ true
+  pub leads : OpensStanding list → run script (opening_of script found) (events_of list) ≡ Some (state_of list)
 
 abbrev pub ServedListsAreRuns : Type 0
 ServedListsAreRuns = (script : Workload) (list : List Mark) (told : List (List Answered)) → IsScript script → (is : IsTold list) → setting_of list ≡ script_setting script → AllServed script list 1 script.clients told → IsRun script (found_in list is) list
@@ -55,8 +57,8 @@ ended_of client number t = record { client = client; number = number; snap = t.s
 abbrev pub reply_by : List (Option Verdict) → Answered → Option Reply
 reply_by vs t = option_map (λ outcome. record { answers = t.answers; outcome = outcome }) (outcome_of vs (ended_of 0 0 t))
 
--- The replies to the clients are what they were told, with the verdicts of the log.
+-- Where the first roller stood, the replies to the clients are what they were told, with the verdicts of the log.
 abbrev pub RepliesAreTold : Type 0
-RepliesAreTold = (script : Workload) (list : List Mark) (told : List (List Answered)) → IsScript script → (is : IsTold list) → setting_of list ≡ script_setting script → AllServed script list 1 script.clients told
+RepliesAreTold = (script : Workload) (list : List Mark) (told : List (List Answered)) → IsScript script → (is : IsTold list) → setting_of list ≡ script_setting script → AllServed script list 1 script.clients told → OpensStanding list
     → map (λ p. replies_to script (state_of list).log (ended_in script (opening_of script (found_in list is)) (events_of list)) p.0 p.1) (enumerate_from 1 script.clients)
     ≡ map (filter_map (reply_by (verdicts script.shape (state_of list).log (length (state_of list).log)))) told

@@ -20,7 +20,7 @@ use Rattle.hy_clients.specs.declared.answered.Answered.{Answered}
 use Rattle.hy_clients.specs.declared.answered.End as end
 use Rattle.hy_clients.specs.declared.answered.End.TheVariants.{Reading}
 use Rattle.hy_clients.specs.Programs.{IsServed, EndsProgram, EndsAs, before, effects_on, answers_given}
-use Rattle.hy_clients.specs.Passing.{IsNextTurn, GoesOn}
+use Rattle.hy_clients.specs.Passing.{OpensStanding, IsNextTurn, GoesOn}
 
 -- the client with this number, which has this server
 pub record IsClient (script : Workload) (number : ℕ) (server : ℕ) : Type 0 where
@@ -30,10 +30,10 @@ pub record IsClient (script : Workload) (number : ℕ) (server : ℕ) : Type 0 w
   pub is : nth script.clients number ≡ Some client
   pub server_is : client.server ≡ server
 
--- these are the live rows at a snapshot of the list's log
+-- The snapshot lies in the list's log. Where the first roller stood, these are the live rows there.
 pub record AreLive (script : Workload) (list : List Mark) (snap : ℕ) (rows : List Row) : Type 0 where
   pub within : snap ≤ len_of list
-  pub are : pairs_of rows ≡ live script.shape (state_of list).log snap
+  pub are : OpensStanding list → pairs_of rows ≡ live script.shape (state_of list).log snap
 
 -- the client's next program was begun on its server's board
 pub record Begins (script : Workload) (client : ℕ) (old new : Known Mark) (begun : Begun) : Type 0 where
@@ -70,13 +70,13 @@ abbrev pub EndsBy : ℕ → Finished → Known Mark → Known Mark → end.End �
 EndsBy client (ReadOnly at) old new told = (told ≡ Reading) × EndsReading client old new
 EndsBy client (Entry entry) old new told = Takes client entry old new told
 
--- the client's program of this number ended, as it does on its snapshot
+-- the client's program of this number ended. Where the first roller stood, it did so as on its snapshot.
 pub record Ends (script : Workload) (client number : ℕ) (old new : Known Mark) (told : Answered) : Type 0 where
   pub turn : ℕ × Mark
   pub next : IsNextTurn client old new turn
-  pub ends : EndsProgram script client told.snap (effects_on script (state_of (before new.seen turn)).log client number told.snap) turn.1
   pub ends_as : EndsAs (len_of (before new.seen turn)) turn.1 told.end
-  pub answers : told.answers ≡ answers_given script (state_of (before new.seen turn)).log client number told.snap
+  pub ends : OpensStanding new.seen → EndsProgram script client told.snap (effects_on script (state_of (before new.seen turn)).log client number told.snap) turn.1
+  pub answers : OpensStanding new.seen → told.answers ≡ answers_given script (state_of (before new.seen turn)).log client number told.snap
 
 -- the client's program of this number was served
 pub record Serves (script : Workload) (client number : ℕ) (old new : Known Mark) (told : Answered) : Type 0 where

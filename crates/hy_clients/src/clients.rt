@@ -1,16 +1,15 @@
 //! All clients of a script on a log.
-ghost use Rattle.std.specs.Prelude.{◌≡◌, ◌≢◌, ◌≤◌, ◌==◌, length, map, take, true, None, IfOk, IfErr};
+ghost use Rattle.std.specs.Prelude.{◌≡◌, ◌≢◌, ◌≤◌, ◌==◌, length, map, true, None, IfOk, IfErr};
 ghost use Rattle.std.specs.List.{list_all};
 ghost use mathlib.Core.List.{IsPrefix};
 ghost use Rattle.hy_base.specs.Faults.{Rose};
 ghost use Rattle.hy_base.specs.Shape.{IsWithin};
-ghost use Rattle.hy_rules.specs.Rolling.{rolled_upto, Stands};
 ghost use Rattle.hy_rules.specs.Runs.{setting_of as script_setting};
 ghost use Rattle.hy_hub.specs.Calls.{events_of};
 ghost use Rattle.hy_hub.specs.Close.{IsClosed};
 ghost use Rattle.hy_hub.specs.Outset.{IsOutset};
 ghost use Rattle.hy_hub.specs.Trace.{setting_of, state_of};
-ghost use Rattle.hy_clients.specs.Passing.{IsRunPass, OpensStanding, opened_log, opened_faults};
+ghost use Rattle.hy_clients.specs.Passing.{IsRunPass, OpensInLog, opened_log, opened_start, opened_faults};
 ghost use Rattle.hy_clients.specs.Served.{AllServed};
 ghost use Rattle.hy_clients.specs.Finished.{IsCutShort, IsFinished};
 
@@ -79,11 +78,11 @@ fn finished<D: Disk>(
 ) -> Result<Run<D>, Broken<D>>
     requires closed { IsClosed D.tells D.content (D.faults_of closed.log.disk) closed.marks.items closed.log closed.entries.items closed.rollers.items }
     requires setting { setting_of closed.marks.items ≡ script_setting script.now }
-    requires standing { OpensStanding closed.marks.items }
+    requires within { OpensInLog closed.marks.items }
     requires ends { list_all (λ board. board == length (state_of closed.marks.items).log) (state_of closed.marks.items).boards ≡ true }
     requires served { AllServed script.now closed.marks.items 1 script.now.clients (map (λ t. t.items) told.items) }
     requires events { events ≡ events_of closed.marks.items }
-    ensures run { IfOk result (λ run. (run.log ≡ closed.log) × IsFinished D.tells script.now (opened_log closed.marks.items) run.events run.replies run.boards run.log) }
+    ensures run { IfOk result (λ run. (run.log ≡ closed.log) × IsFinished D.tells script.now (opened_log closed.marks.items) (opened_start closed.marks.items) run.events run.replies run.boards run.log) }
     ensures log { IfErr result (λ broken. broken.log ≡ closed.log) }
     ensures cause { IfErr result (λ broken. broken.cause ≡ Cause.Device → closed.log.stopped ≢ None) }
     ensures memory { IfErr result (λ broken. broken.cause ≡ Cause.Memory → closed.log.stopped ≡ None) }
@@ -101,7 +100,6 @@ fn finished<D: Disk>(
         return Err(break_off(log));
     }
     let first = &rollers[0];
-    let _ = first.base_tree();
     match all_replies(alloc, first, told) {
         Ok(replies) => Ok(Run {
             log,
@@ -149,8 +147,9 @@ fn run_on<D: Disk + Send, R: Threads + Wait + Sync, G: Gate + Sync>(
 ) -> Result<Run<D>, Broken<D>>
     requires pass { IsRunPass hub script.now pass }
     requires parts { (hub.parts ≡ 129) × (pass.parts ≡ 129) }
+    requires within { OpensInLog pass.seen }
     requires threads { IsWithin 1 16 threads }
-    ensures run { IfOk result (λ run. IsFinished D.tells script.now (opened_log pass.seen) run.events run.replies run.boards run.log) }
+    ensures run { IfOk result (λ run. IsFinished D.tells script.now (opened_log pass.seen) (opened_start pass.seen) run.events run.replies run.boards run.log) }
     ensures cut { IfErr result (λ broken. IsCutShort D.tells D.content script.now.shape (opened_log pass.seen) broken.log) }
     ensures cause { IfErr result (λ broken. broken.cause ≡ Cause.Device → Rose (opened_faults pass.seen) (D.faults_of broken.log.disk)) }
     ensures memory { IfErr result (λ broken. broken.cause ≡ Cause.Memory → broken.log.stopped ≡ None) }
@@ -184,9 +183,8 @@ pub fn run_clients<D: Disk + Send, R: Threads + Wait + Sync, G: Gate + Sync>(
 ) -> Result<Run<D>, Broken<D>>
     requires outset { IsOutset D.tells log entries.items start script.now.servers (script_setting script.now).homes }
     requires shape { start.shape ≡ script.now.shape }
-    requires stands { Stands (take (rolled_upto start) entries.items) start }
     requires threads { IsWithin 1 16 threads }
-    ensures run { IfOk result (λ run. IsFinished D.tells script.now entries.items run.events run.replies run.boards run.log) }
+    ensures run { IfOk result (λ run. IsFinished D.tells script.now entries.items start run.events run.replies run.boards run.log) }
     ensures cut { IfErr result (λ broken. IsCutShort D.tells D.content script.now.shape entries.items broken.log) }
     ensures cause { IfErr result (λ broken. broken.cause ≡ Cause.Device → Rose (D.faults_of log.disk) (D.faults_of broken.log.disk)) }
     ensures memory { IfErr result (λ broken. broken.cause ≡ Cause.Memory → broken.log.stopped ≡ None) }
@@ -194,6 +192,7 @@ pub fn run_clients<D: Disk + Send, R: Threads + Wait + Sync, G: Gate + Sync>(
     ensures later { IfOk result (λ run. D.faults_of log.disk ≤ D.faults_of run.log.disk) }
     ensures later_cut { IfErr result (λ broken. D.faults_of log.disk ≤ D.faults_of broken.log.disk) }
 {
+    let _ = start.base_tree();
     let Ok(homes) = homes_of(alloc, script) else {
         return Err(break_off(log));
     };

@@ -1,18 +1,16 @@
-//! The replies to the clients, by the verdicts of the whole log.
+//! The replies to the clients, by a roller of the whole log.
 ghost use Rattle.std.specs.Prelude.{◌≡◌, IfOk, map, filter_map};
-ghost use Rattle.hy_rules.specs.Runs.{verdict_at, outcome_of};
-ghost use Rattle.hy_clients.specs.Served.{ended_of, reply_by};
-ghost use Rattle.hy_clients.specs.Replying.{KeepsAll};
+ghost use Rattle.hy_pipe.specs.Telling.{told};
+ghost use Rattle.hy_clients.specs.Replying.{known, outcome_by, reply_on};
 
 use crate::answered::{Answered, End};
 use hy_base::{Items, Outcome, Pos, Replies, Reply, Verdict};
 use hy_pipe::{Roller, Told};
 use std::alloc::{AllocError, Global};
 
-// The verdict of a position, by a roller that keeps all verdicts.
+// The verdict of a position, by a roller. It keeps that of each position to which a client of this run appended.
 fn verdict_at(roller: &Roller, pos: Pos) -> Option<Verdict>
-    requires { KeepsAll roller.now }
-    ensures { result ≡ verdict_at roller.now.rolled.verdicts pos }
+    ensures { result ≡ known (told roller.now pos) }
 {
     match roller.verdict(pos) {
         Told::Known(verdict) => verdict,
@@ -22,8 +20,7 @@ fn verdict_at(roller: &Roller, pos: Pos) -> Option<Verdict>
 }
 
 fn outcome_of(roller: &Roller, told: &Answered) -> Option<Outcome>
-    requires { KeepsAll roller.now }
-    ensures { result ≡ outcome_of roller.now.rolled.verdicts (ended_of 0 0 told.now) }
+    ensures { result ≡ outcome_by roller.now told.now.snap told.now.end }
 {
     match told.end {
         End::Reading => Some(Outcome::Read { snap: told.snap }),
@@ -37,8 +34,7 @@ fn outcome_of(roller: &Roller, told: &Answered) -> Option<Outcome>
 
 // The replies to a client, program by program.
 fn replies_to(alloc: Global, roller: &Roller, told: Vec<Answered>) -> Result<Replies, AllocError>
-    requires { KeepsAll roller.now }
-    ensures { IfOk result (λ replies. replies ≡ filter_map (reply_by roller.now.rolled.verdicts) told.items) }
+    ensures { IfOk result (λ replies. replies ≡ filter_map (reply_on roller.now) told.items) }
 {
     let mut replies = Items::new(alloc);
     for answered in told {
@@ -58,8 +54,7 @@ pub(crate) fn all_replies(
     roller: &Roller,
     told: Vec<Vec<Answered>>,
 ) -> Result<Items<Replies>, AllocError>
-    requires { KeepsAll roller.now }
-    ensures { IfOk result (λ replies. replies ≡ map (filter_map (reply_by roller.now.rolled.verdicts)) (map (λ t. t.items) told.items)) }
+    ensures { IfOk result (λ replies. replies ≡ map (filter_map (reply_on roller.now)) (map (λ t. t.items) told.items)) }
 {
     let mut replies = Items::new(alloc);
     for own in told {

@@ -11,7 +11,7 @@ ghost use Rattle.hy_clients.specs.Programs.{AreServed};
 ghost use Rattle.hy_clients.specs.Serving.{AreLive, Begins, Ends, EndsBy, EndsReading, IsClient, IsOwnEnd, Serves, Takes};
 
 use crate::answered::{Answered, End};
-use hy_base::{Client, Entry, Program, Script};
+use hy_base::{Client, Entry, Pos, Program, Script};
 use hy_disk::Disk;
 use hy_exec::{Executed, Finished, run_program};
 use hy_hist::Pass;
@@ -104,7 +104,8 @@ fn publish<D: Disk, R: Wait>(
     }
 }
 
-// A server completes the last group, and publishes the log up to its end.
+// A server completes the last group, and publishes the log up to its end. It rolls nothing where another task has published up
+// to the client's last entry meanwhile; so it doesn't where nothing is left to publish.
 pub(crate) fn catch_up<D: Disk, R: Threads + Wait + Sync, G: Gate + Sync>(
     rt: &R,
     alloc: Global,
@@ -112,6 +113,7 @@ pub(crate) fn catch_up<D: Disk, R: Threads + Wait + Sync, G: Gate + Sync>(
     hub: &Hub<D>,
     pass: &mut Pass<Contents<D>>,
     server: u8,
+    last: Pos,
     threads: usize,
     gate: &G,
 ) -> Result<(), Cut>
@@ -123,6 +125,9 @@ pub(crate) fn catch_up<D: Disk, R: Threads + Wait + Sync, G: Gate + Sync>(
 {
     complete_group(rt, script, hub, pass, server)?;
     let look = look_on(rt, script, hub, pass, server)?;
+    if last <= look.roller.at() {
+        return Ok(());
+    }
     let entries = look.entries.as_slice();
     let rolled = look.roller.roll(rt, alloc, entries, threads, gate)?;
     publish(rt, script, hub, pass, server, rolled)
@@ -171,8 +176,8 @@ fn begin_program<D: Disk, R: Threads + Wait + Sync, G: Gate + Sync>(
         match begin_once(rt, script, hub, pass, client) {
             Ok(begun) => return Ok(begun),
             Err(BeginRefusal::OutOfTurn { .. }) => {}
-            Err(BeginRefusal::Behind { .. }) => {
-                catch_up(rt, alloc, script, hub, pass, server, threads, gate)?;
+            Err(BeginRefusal::Behind { last, .. }) => {
+                catch_up(rt, alloc, script, hub, pass, server, last, threads, gate)?;
             }
             Err(BeginRefusal::Memory) => return Err(Cut),
         }

@@ -69,7 +69,8 @@ fn run_task<D: Disk, R: Threads + Wait + Sync, G: Gate + Sync>(
     events_are_tasks(&task.pass);
 }
 
-// Runs the tasks beside each other, each on a thread of its own.
+// Runs the tasks concurrently, each on a thread of its own. They share the threads that rolls may take. A roll starts at most one
+// more than it is given, so 128 tasks that all roll at once start at most 256 besides their own, and not 17 each.
 fn run_tasks<D: Disk + Send, R: Threads + Wait + Sync, G: Gate + Sync>(
     rt: &R,
     alloc: Global,
@@ -86,15 +87,16 @@ fn run_tasks<D: Disk + Send, R: Threads + Wait + Sync, G: Gate + Sync>(
     ensures same { AreNumbered 1 tasks.new }
     ensures count { length tasks.new ≡ length tasks.old }
 {
-    let count = tasks.len();
+    let count = tasks.len().max(1);
+    let share = (threads / count).max(1);
     thread::for_each_mut(
         rt,
         tasks,
-        count.max(1),
+        count,
         &|_, task: &mut Task<D>|
-            requires { IsReadyTask hub.now script.now task.now × IsWithin 1 16 threads }
+            requires { IsReadyTask hub.now script.now task.now × IsWithin 1 16 share }
             ensures { IsEndedTask hub.entry.now script.entry.now task.exit.now × (task.exit.now.client ≡ task.entry.now.client) }
-        { run_task(rt, alloc, script, hub, task, threads, gate) },
+        { run_task(rt, alloc, script, hub, task, share, gate) },
     );
 }
 

@@ -1,29 +1,20 @@
 use Rattle.std.proofs.Common.{◌≡◌, ◌∙◌, refl, ap, subst, sym, None, List, map}
 use Rattle.std.specs.Prelude.{is_some}
-use Rattle.std.specs.List.{filter_map}
 use Rattle.hy_base.specs.declared.workload.Event.{Event}
 use Rattle.hy_rules.specs.Rolling.{Roll}
 use Rattle.hy_hub.specs.Calls.{events_of}
-use Rattle.hy_clients.specs.Passing.{opened_log}
-use Rattle.hy_clients.specs.Served.{reply_by}
+use Rattle.hy_clients.specs.Passing.{opened_log, opened_start}
 use Rattle.hy_clients.specs.Finished.{IsFinished}
-use Rattle.hy_clients.proofs.Finishes.{finishes, first_verdicts, runs_on}
+use Rattle.hy_clients.proofs.Finishes.{finishes, runs_on}
 use Rattle.hy_clients.proofs.clients.finished.Goals as goal
-
-pub all_replies-requires : goal.all_replies-requires
-all_replies-requires g c =
-    let r = c.requires in
-    (first_verdicts r.closed c.args.script.now r.setting r.standing r.ends c.index-first.result.now c.shape.ensures.script c.index-first.ensures c.base_tree.ensures.valid).0
 
 pub returns-in-Ok-clause-run : goal.returns-in-Ok-clause-run
 returns-in-Ok-clause-run g c =
     let r = c.requires in
     let script = c.args.script.now in
     let list = c.args.closed.marks.items in
-    let told = map (λ (t : _). t.items) c.args.told.items in
-    let same = (first_verdicts r.closed script r.setting r.standing r.ends c.index-first.result.now c.shape.ensures.script c.index-first.ensures c.base_tree.ensures.valid).1 in
+    let told = map (λ t. t.items) c.args.told.items in
     let running : c.args.closed.log.stopped ≡ None = runs_on c.args.closed.log.stopped c.is_some.result (c.is_some.ensures ∙ ap is_some c.stopped.ensures) c.if-is_some.false in
-    let are = c.in-Ok.ensures ∙ ap (λ (vs : _). map (filter_map (reply_by vs)) told) same in
-    let run = finishes r.closed script r.setting r.standing r.ends told c.in-Ok.replies c.shape.ensures.script c.served_lists_are_runs.ensures c.replies_are_told.ensures r.served running are in
-    let finished = λ (es : List Event) (boards : List Roll). IsFinished g.D.Disk.tells script (opened_log list) es c.in-Ok.replies boards c.args.closed.log in
+    let run = finishes r.closed script r.setting r.ends c.index-first.result.now told c.in-Ok.replies c.shape.ensures.script c.index-first.ensures r.within c.served_lists_are_runs.ensures c.replies_are_told.ensures r.served running c.in-Ok.ensures in
+    let finished = λ (es : List Event) (boards : List Roll). IsFinished g.D.Disk.tells script (opened_log list) (opened_start list) es c.in-Ok.replies boards c.args.closed.log in
     (refl, subst (λ (es : List Event). finished es c.from_vec.result) (sym r.events) (subst (finished (events_of list)) (sym c.from_vec.ensures) run))
