@@ -1,10 +1,9 @@
 -- How long the log gets: at most four entries for each program that has ended.
-use Rattle.std.proofs.Common.{◌≡◌, ◌∙◌, ℕ, zero, suc, ◌+◌, ◌-◌, ◌*◌, ◌/◌, ◌%◌, ◌<◌, ◌≤◌, Bool, true, false, List, [], ◌∷◌, length, refl, sym, ap, subst, arith, Option, Some, None}
-use Rattle.std.specs.Prelude.{min, slice_get, sum_by, ◌==◌, if◌then◌else◌}
+use Rattle.std.proofs.Common.{◌≡◌, ◌∙◌, ℕ, zero, suc, ◌+◌, ◌-◌, ◌*◌, ◌/◌, ◌%◌, ◌<◌, ◌≤◌, Bool, true, false, List, length, refl, sym, ap, arith, Option, Some, None}
+use Rattle.std.specs.Prelude.{min, slice_get, sum_by}
 use Rattle.std.specs.List.{range_with_len}
 use Rattle.std.proofs.lemmas.Bool.{eqb-true, eqb-false}
 use Rattle.std.proofs.lemmas.List.Sums.{sum_by-cons}
-use Rattle.hy_base.specs.Shape.{IsWithin}
 use Rattle.hy_base.proofs.NthLemmas.{nth_within}
 use Rattle.hy_gen.specs.Load.{program_count}
 use Rattle.hy_gen.specs.Rounds.{append_count, ending, entry_count, home, is_last, log_len, number_in, period, whole}

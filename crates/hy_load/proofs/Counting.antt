@@ -1,22 +1,20 @@
 -- In a log that counts, the live rows of the counted keys are numbers.
-use Rattle.std.proofs.Common.{◌≡◌, ◌∙◌, ℕ, zero, suc, ◌+◌, ◌*◌, ◌/◌, ◌<◌, ◌≤◌, Bool, true, false, List, [], ◌∷◌, ◌++◌, length, map, refl, sym, ap, subst, arith, inl, inr, Option, Some, None, option_map}
+use Rattle.std.proofs.Common.{◌≡◌, ℕ, ◌+◌, ◌/◌, ◌<◌, ◌≤◌, Bool, true, false, List, [], ◌∷◌, map, refl, subst, arith, inl, inr, Option, Some, None}
 use Rattle.std.proofs.lemmas.Bool.{cases_eq, eq-eqb, ne_eqb}
-use Rattle.std.specs.Prelude.{decimal, filter_map, find, ◌==◌}
+use Rattle.std.specs.Prelude.{decimal}
 use Rattle.std.specs.List.{AllByRecursion}
 use Rattle.hy_base.specs.declared.layout.Shape.{Shape}
 use Rattle.hy_base.specs.declared.record.EntryKind.{EntryKind}
 use Rattle.hy_base.specs.declared.record.EntryKind.TheVariants.{Filler, Txn}
 use Rattle.hy_base.specs.declared.record.Row.{Row}
-use Rattle.hy_base.specs.declared.record.Verdict.{Verdict}
 use Rattle.hy_base.specs.declared.record.Write.{Write}
-use Rattle.hy_base.specs.declared.report.Pair.{Pair}
-use Rattle.hy_base.specs.Rows.{Each, newest, rows_at}
+use Rattle.hy_base.specs.Rows.{Each, rows_at}
 use Rattle.hy_base.proofs.EachLemmas.{Each-append}
 use Rattle.hy_base.proofs.RowLemmas.{Each-newest}
-use Rattle.hy_rules.specs.History.{committed_at, flagged_history, history, is_commit, pairs_of, writes_at}
+use Rattle.hy_rules.specs.History.{committed_at, flagged_history, is_commit, pairs_of, writes_at}
 use Rattle.hy_rules.specs.Exec.{value_at}
 use Rattle.hy_rules.specs.Validation.{live, rows, verdicts_after}
-use Rattle.hy_load.specs.Laws.{CountsUpTo, EntryCounts, LogCounts}
+use Rattle.hy_load.specs.Laws.{CountsUpTo, EntryCounts}
 
 -- a value, where there is one, is the spelling of a number up to a bound
 abbrev pub IsCountUpTo : ℕ → Option (List ℕ) → Type 0

@@ -1,5 +1,5 @@
 -- What a program of a load leaves: one that adds or puts leaves a write, and one that only gets leaves none.
-use Rattle.std.proofs.Common.{◌≡◌, ◌∙◌, ℕ, zero, suc, ◌+◌, ◌*◌, ◌/◌, ◌%◌, ◌^◌, ◌<◌, ◌≤◌, Bool, true, false, List, [], ◌∷◌, ◌++◌, length, map, refl, sym, ap, subst, arith, inl, inr, Option, Some, None, lit<, lt-ltb}
+use Rattle.std.proofs.Common.{◌≡◌, ℕ, zero, suc, ◌+◌, ◌%◌, ◌^◌, ◌<◌, ◌≤◌, Bool, true, false, List, [], ◌∷◌, length, refl, sym, subst, arith, inl, inr, Option, Some, None, lt-ltb}
 use Rattle.std.proofs.lemmas.Bool.{cases_eq, cases_order, eq-eqb, ne_eqb, le-ltb}
 use Rattle.std.specs.Prelude.{decimal, find, is_some, nat_lt, ◌==◌, if◌then◌else◌}
 use Rattle.std.specs.List.{AllByRecursion}
@@ -7,16 +7,14 @@ use Rattle.hy_base.specs.declared.record.Write.{Write}
 use Rattle.hy_base.specs.declared.report.Answer.{Answer}
 use Rattle.hy_base.specs.declared.report.Answer.TheVariants.{Sum}
 use Rattle.hy_base.specs.declared.report.Pair.{Pair}
-use Rattle.hy_base.specs.declared.workload.Command.{Command}
-use Rattle.hy_base.specs.declared.workload.Command.TheVariants.{Get, Put, Add, Scan}
-use Rattle.hy_base.specs.declared.workload.Program.{Program}
+use Rattle.hy_base.specs.declared.workload.Command.TheVariants.{Add}
 use Rattle.hy_base.specs.Entry.{write_before}
 use Rattle.hy_base.specs.Lists.{put}
 use Rattle.hy_base.proofs.NumberLemmas.{number_of_decimal}
 use Rattle.hy_rules.specs.Exec.{Effects, no_effects, own_write, perform, perform_all, exec, seen, sum_at, sum_of, value_at, with_point, with_sum}
 use Rattle.hy_gen.specs.declared.drawing.Draw.{Draw}
 use Rattle.hy_gen.specs.Draws.{draw_of, reads_only}
-use Rattle.hy_gen.specs.Load.{commands_by, commands_of, program_numbered, value_numbered}
+use Rattle.hy_gen.specs.Load.{commands_by, program_numbered, value_numbered}
 use Rattle.hy_load.specs.Laws.{CountsUpTo}
 use Rattle.hy_load.proofs.Counting.{IsCountUpTo}
 

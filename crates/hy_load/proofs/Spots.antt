@@ -1,5 +1,5 @@
 -- Items at a place in a list, and events in turn.
-use Rattle.std.proofs.Common.{◌≡◌, ◌∙◌, ℕ, zero, suc, ◌+◌, ◌-◌, ◌<◌, ◌≤◌, Bool, true, false, List, [], ◌∷◌, ◌++◌, length, map, refl, sym, ap, subst, arith, Option, Some, None}
+use Rattle.std.proofs.Common.{◌≡◌, ◌∙◌, ℕ, zero, suc, ◌+◌, ◌<◌, ◌≤◌, true, List, [], ◌∷◌, ◌++◌, length, map, refl, ap, arith, Option, Some, None}
 use Rattle.std.specs.Prelude.{option_and_then, slice_get}
 use Rattle.std.specs.List.{range_with_len}
 use Rattle.hy_base.specs.declared.workload.Event.{Event}
@@ -53,3 +53,8 @@ run_both script s t u (event ∷ first) second p q = go (step script s event) re
 -- one event that may happen
 pub run_one : (script : Workload) (s : State) (event : Event) → may_happen script s event ≡ true → run script s (event ∷ []) ≡ Some (next_state script s event)
 run_one script s event may = rw may refl
+
+pub get_beyond : {X : Type 0} (xs : List X) (k : ℕ) → length xs ≤ k → slice_get xs k ≡ None
+get_beyond [] k past = refl
+get_beyond (x ∷ xs) zero past = absurd (omega (arith, past))
+get_beyond (x ∷ xs) (suc k) past = get_beyond xs k (omega (arith, past))
