@@ -109,6 +109,7 @@ IsOfBytes _ = ⊤
 pub record IsSameLog {D : Type 0} (old new : View D) : Type 0 where
   pub shape : new.shape ≡ old.shape
   pub stopped : new.stopped ≡ old.stopped
+  pub batch : new.batch ≡ old.batch
   pub spare : new.spare ≡ old.spare
   pub bodies : new.bodies ≡ old.bodies
 
