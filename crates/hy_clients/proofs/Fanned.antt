@@ -11,7 +11,6 @@ use Rattle.hy_base.specs.Script.{Workload}
 use Rattle.hy_hist.specs.Passes.{Lock, Known, made}
 use Rattle.hy_hist.proofs.Lists.{prefix_trans}
 use Rattle.hy_hub.specs.declared.mark.Mark.{Mark}
-use Rattle.hy_hub.specs.declared.mark.Mark.TheVariants.{Opened, Happened, Halted}
 use Rattle.hy_hub.specs.Trace.{setting_of}
 use Rattle.hy_hub.specs.Hub.{IsTold}
 use Rattle.hy_hub.specs.Calls.{IsIdle, OneTurn}

@@ -1,8 +1,6 @@
 -- What a list says of its opening, as it goes on.
 use Rattle.std.proofs.Common.{◌≡◌, ◌<◌, List, [], ◌∷◌, ◌++◌, length, ap, sym, ◌∙◌, subst, arith}
 use mathlib.Core.List.{IsPrefix}
-use Rattle.hy_base.specs.declared.record.EntryKind.{EntryKind}
-use Rattle.hy_rules.specs.Moves.{Setting}
 use Rattle.hy_rules.specs.Rolling.{Roll}
 use Rattle.hy_hub.specs.declared.mark.Mark.{Mark}
 use Rattle.hy_hub.specs.declared.mark.Mark.TheVariants.{Opened, Happened, Halted}

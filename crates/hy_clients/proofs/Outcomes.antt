@@ -17,10 +17,9 @@ use Rattle.hy_base.specs.declared.workload.Client.{Client}
 use Rattle.hy_base.specs.declared.workload.Event.TheVariants.{Begin, Append, End, Refuse, Pad, Publish, Stop}
 use Rattle.hy_base.proofs.NthLemmas.{nth_within}
 use Rattle.hy_rules.specs.Rolling.{Roll, Stands}
-use Rattle.hy_rules.specs.Runs.{Ended, verdict_at, outcome_of}
+use Rattle.hy_rules.specs.Runs.{verdict_at, outcome_of}
 use Rattle.hy_rules.specs.Validation.{verdicts, verdicts_after}
 use Rattle.hy_rules.proofs.Growth.{verdict_count}
-use Rattle.hy_pipe.specs.declared.roller.Told.{Told}
 use Rattle.hy_pipe.specs.declared.roller.Told.TheVariants.{Known, NotYet, Past}
 use Rattle.hy_pipe.specs.Telling.{told}
 use Rattle.hy_pipe.proofs.Standing.{standing_tells}
@@ -32,7 +31,7 @@ use Rattle.hy_hub.proofs.Passing.{log_more}
 use Rattle.hy_clients.specs.declared.answered.Answered.{Answered}
 use Rattle.hy_clients.specs.declared.answered.End as end
 use Rattle.hy_clients.specs.declared.answered.End.TheVariants.{Reading, EntryAt, FullLog}
-use Rattle.hy_clients.specs.Passing.{opened_log, OpensInLog}
+use Rattle.hy_clients.specs.Passing.{opened_log}
 use Rattle.hy_clients.specs.Programs.{AreServed, EndsAs, ending_of}
 use Rattle.hy_clients.specs.Replying.{known, outcome_by, reply_on}
 use Rattle.hy_clients.specs.Served.{AllServed, reply_by}

@@ -1,18 +1,16 @@
 -- The turns of a client in the hub's list.
-use Rattle.std.proofs.Common.{◌≡◌, ℕ, suc, ◌+◌, ◌*◌, ◌<◌, ◌≤◌, Bool, true, false, cond, List, [], ◌∷◌, ◌++◌, length, take, refl, ap, sym, ◌∙◌, subst, arith, length-append}
+use Rattle.std.proofs.Common.{◌≡◌, ℕ, suc, ◌+◌, ◌*◌, ◌<◌, Bool, true, false, cond, List, [], ◌∷◌, ◌++◌, length, refl, ap, sym, ◌∙◌, subst, arith}
 use Rattle.std.specs.Prelude.{slice_get, filter, Some, None, ◌==◌, if◌then◌else◌}
 use Rattle.std.proofs.lemmas.Bool.{ne_eqb}
-use Rattle.std.proofs.lemmas.List.{take-append-le}
 use Rattle.std.proofs.lemmas.List.Sums.{length-filter}
 use mathlib.Core.List.{IsPrefix}
 use Rattle.hy_base.specs.Script.{Workload}
 use Rattle.hy_hist.specs.Passes.{Known, Makes, made, masked, at_place, count_made}
 use Rattle.hy_hub.specs.declared.mark.Mark.{Mark}
-use Rattle.hy_hub.specs.Trace.{state_of}
-use Rattle.hy_hub.specs.Calls.{placed, board_at}
+use Rattle.hy_hub.specs.Calls.{placed}
 use Rattle.hy_hub.specs.Turns.{is_mark_of}
 use Rattle.hy_clients.specs.declared.answered.Answered.{Answered}
-use Rattle.hy_clients.specs.Programs.{AreServed, IsServed, EndsProgram, EndsAs, effects_on, answers_given}
+use Rattle.hy_clients.specs.Programs.{AreServed}
 use Rattle.hy_clients.specs.Passing.{own_turns}
 
 -- ---- what a pass made of a kind, where it made all of that kind

@@ -1,10 +1,9 @@
 -- Passes of a run, over a turn.
-use Rattle.std.proofs.Common.{◌≡◌, ℕ, suc, ◌+◌, ◌<◌, List, [], ◌∷◌, length, get_or, Some, refl, ap, sym, ◌∙◌, subst, arith}
+use Rattle.std.proofs.Common.{◌≡◌, ℕ, suc, ◌+◌, ◌<◌, List, length, get_or, Some, refl, ap, sym, ◌∙◌, subst, arith}
 use Rattle.std.specs.Prelude.{Option, option_and_then, slice_get}
 use Rattle.std.proofs.lemmas.Option.{slice_get_read}
 use Rattle.std.specs.Option.{option_map_or}
 use Rattle.std.proofs.lemmas.List.{length-map}
-use mathlib.Core.List.{IsPrefix}
 use Rattle.hy_base.specs.Lists.{nth}
 use Rattle.hy_base.specs.Script.{Workload, IsProgram, IsClient as IsGoodClient}
 use Rattle.hy_base.specs.Shape.{IsWithin}
@@ -17,13 +16,11 @@ use Rattle.hy_hist.specs.Passes.{Lock, Known}
 use Rattle.hy_rules.specs.Moves.{Setting, home_server}
 use Rattle.hy_rules.specs.Runs.{setting_of as script_setting, program_of}
 use Rattle.hy_hub.specs.declared.mark.Mark.{Mark}
-use Rattle.hy_hub.specs.declared.mark.Mark.TheVariants.{Opened, Happened, Halted}
 use Rattle.hy_hub.specs.Trace.{setting_of}
 use Rattle.hy_hub.specs.Calls.{OneTurn, IsIdle, IsEntryOf, is_declared_client}
 use Rattle.hy_base.proofs.NthLemmas.{nth_map, nth_within, All-nth}
 use Rattle.hy_clients.specs.Passing.{IsRunPass}
 use Rattle.hy_clients.specs.Serving.{IsClient}
-use Rattle.hy_clients.proofs.Turning.{grows}
 
 -- a turn leaves a pass of the run one
 pub runs_on : (lock : Lock) (script : Workload) (all : ℕ) (old new : Known Mark) (does : List Mark → List Mark → Type 0) → OneTurn all old new does → setting_of new.seen ≡ setting_of old.seen → IsIdle lock new → IsRunPass lock script old

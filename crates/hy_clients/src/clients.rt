@@ -167,7 +167,10 @@ fn run_on<D: Disk + Send, R: Threads + Wait + Sync, G: Gate + Sync>(
 }
 
 /// Runs all programs of all clients over a log, each client on a thread of its own, and brings each server to the log's end.
-/// Rolls take up to 16 threads more. As a client's task starts it calls the gate.
+/// The clients share `threads` for their rolls; those at the end have all. As a client's task starts it calls the gate.
+///
+/// `start` is where rolling goes on from. Where it stands for the log's first entries the run is one of the script, with its
+/// replies; what the log then holds is told in any case.
 ///
 /// `Device`: the log's device failed, and the log is stopped. `Memory`: memory was wanting. Either hands back the log, which
 /// has all that was found and appended.

@@ -1,4 +1,4 @@
-//! The clients' tasks, which run beside each other, each with a pass of its own.
+//! The clients' tasks, which run concurrently, each with a pass of its own.
 ghost use Rattle.std.specs.Prelude.{◌≡◌, ◌+◌, ◌≤◌, [], length, map, vec_capacity, IfOk, IfErr, All};
 ghost use Rattle.hy_base.specs.Shape.{IsWithin};
 ghost use mathlib.Core.List.{IsPrefix};
@@ -171,7 +171,7 @@ fn gather<D: Disk>(
     if whole { Ok(all) } else { Err(Cut) }
 }
 
-/// Serves all clients beside each other. The lists are what each of them was told.
+/// Serves all clients concurrently. The lists are what each of them was told.
 pub(crate) fn serve_all<D: Disk + Send, R: Threads + Wait + Sync, G: Gate + Sync>(
     rt: &R,
     alloc: Global,

@@ -1,4 +1,3 @@
-use Rattle.std.proofs.Common.{map}
 use Rattle.hy_clients.proofs.Fanned.{served_more}
 use Rattle.hy_clients.proofs.clients.serve_to_end.Goals as goal
 

@@ -14,3 +14,7 @@ pub returns-clause-goes : goal.returns-clause-goes
 returns-clause-goes g c = λ client.
     quiet_then client c.args.pass.now c.complete_group.new.pass c.publish.new.pass [] (c.complete_group.ensures.goes client)
     (quiet_then client c.complete_group.new.pass c.look_on.new.pass c.publish.new.pass [] (c.look_on.ensures.goes client) (c.publish.ensures.goes client))
+
+pub returns-then-last-at-clause-goes : goal.returns-then-last-at-clause-goes
+returns-then-last-at-clause-goes g c = λ client.
+    quiet_then client c.args.pass.now c.complete_group.new.pass c.look_on.new.pass [] (c.complete_group.ensures.goes client) (c.look_on.ensures.goes client)
