@@ -1,6 +1,6 @@
 -- What a restart leaves for the run that begins with it.
 use Rattle.std.proofs.Common.{◌≡◌, ◌≢◌, ℕ, ◌≤◌, Bool, true, false, IsTrue, List, length, refl, sym, ◌∙◌, ap, subst, inl, inr, ⊎_elim, arith}
-use Rattle.std.specs.Prelude.{◌⊎◌, ◌&&◌, ◌||◌, Option, Some, None, Result, Ok, Err}
+use Rattle.std.specs.Prelude.{◌⊎◌, ◌&&◌, ◌||◌, Option, Some, None, Result, Ok, Err, IfErr}
 use Rattle.hy_base.specs.declared.layout.Shape.{Shape}
 use Rattle.hy_base.specs.declared.record.EntryKind.{EntryKind}
 use Rattle.hy_base.specs.Faults.{Rose}
@@ -116,3 +116,7 @@ restart_cause options asked on counts acked restarting.PointsDevice refuses coun
 restart_cause options asked on counts acked (restarting.BadEntry pos bad) refuses counted log points = inl (λ knows. refused_as (restart_in on.shape on.bodies options.from_point on.points) (restarting.BadEntry pos bad) _ refl (refuses knows), counted)
 restart_cause options asked on counts acked (restarting.BadPoint bad) refuses counted log points = inl (λ knows. refused_as (restart_in on.shape on.bodies options.from_point on.points) (restarting.BadPoint bad) _ refl (refuses knows), counted)
 restart_cause options asked on counts acked (restarting.Ahead point held) refuses counted log points = inl (λ knows. refused_as (restart_in on.shape on.bodies options.from_point on.points) (restarting.Ahead point held) _ refl (refuses knows), counted)
+
+-- why there is no text, where it is known
+pub err_with : {V : Type 0} (text : Result V Status) (answer : Status) (P : Status → Type 0) → text ≡ Err answer → P answer → IfErr text P
+err_with text answer P same is = subst (λ t. IfErr t P) (sym same) is

@@ -22,6 +22,8 @@ fn summary_of(alloc: Global, seed: u64, size: u32, core: &Core) -> Result<Vec<u8
     requires { is_finished core.now.script core.now.state ≡ true }
     ensures { IfOk result (λ text. text.items ≡ summary_at seed size core.now.script core.now.ended core.now.state) }
 {
+    // A script has a server.
+    let _script = core.script();
     let verdicts = core.verdicts(alloc)?;
     let (_, tree) = core.board(1);
     let live = live_of(alloc, tree)?;

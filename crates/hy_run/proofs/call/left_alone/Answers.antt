@@ -12,3 +12,6 @@ returns-clause-points g c = λ options told on may_save.
 
 pub returns-clause-now : goal.returns-clause-now
 returns-clause-now g c = λ image left. g.met.D.Disk.only_now c.args.log.now image left
+
+pub returns-clause-points_now : goal.returns-clause-points_now
+returns-clause-points_now g c = λ image left. g.met.D.Disk.only_now c.args.points.now image left
