@@ -1,11 +1,10 @@
 -- Which marks hold a key, in the order of their blocks.
-use Rattle.std.proofs.Common.{◌≡◌, ◌⊎◌, ℕ, zero, suc, ◌+◌, ◌-◌, ◌*◌, ◌/◌, ◌%◌, ◌^◌, ◌<◌, ◌≤◌, Bool, true, false, ltb, List, [], ◌∷◌, ◌++◌, length, get_or, take, Option, Some, None, refl, sym, ap, ◌∙◌, subst, arith, inl, inr, add-one}
-use Rattle.std.specs.List.{AllByRecursion, AllWithin}
-use Rattle.std.specs.List.Sorted.{IsNonDecreasingBy, IsPartitionPoint, IsPartitionedBy}
+use Rattle.std.proofs.Common.{◌≡◌, ◌⊎◌, ℕ, zero, suc, ◌+◌, ◌-◌, ◌*◌, ◌/◌, ◌%◌, ◌^◌, ◌<◌, ◌≤◌, Bool, true, false, ltb, List, [], ◌∷◌, length, get_or, take, Option, Some, None, refl, sym, ap, ◌∙◌, subst, arith, inl, inr, add-one}
+use Rattle.std.specs.List.{AllByRecursion}
+use Rattle.std.specs.List.Sorted.{IsNonDecreasingBy, IsPartitionPoint}
 use Rattle.std.proofs.lemmas.Bool.{cases_Bool, cases_lt, leb-true, le-leb, ltb-true, ltb-false, and_parts, and_from, or_cases, eqb-true}
 use Rattle.std.proofs.lemmas.List.{take_more, take_all}
-use Rattle.std.proofs.lemmas.List.Sorted.{IsPartitionedBy-ltb}
-use Rattle.std.proofs.lemmas.Nat.{pow_pos, div-add-mod', div-mul-add}
+use Rattle.std.proofs.lemmas.Nat.{div-add-mod', div-mul-add}
 use Rattle.std.proofs.Math.Nat.{two-pow-succ, mul-le-mul_right}
 use Rattle.hy_base.specs.declared.record.Span.{Span}
 use Rattle.hy_base.specs.declared.record.Mark.{Mark}
@@ -16,7 +15,7 @@ use Rattle.hy_base.specs.Marks.{dep, lesser, clash}
 use Rattle.hy_mark.specs.Blocks.{IsBlock}
 use Rattle.hy_mark.specs.Orders.{IsBefore, AreOrdered, ArePairs}
 use Rattle.hy_mark.proofs.Widths.{aligned_less}
-use Rattle.hy_mark.proofs.Deps.{lesser_comm, lesser_assoc, dep_one, dep_append, dep_last, dep_cons}
+use Rattle.hy_mark.proofs.Deps.{lesser_assoc, dep_last}
 use Rattle.hy_tree.specs.TreeRows.{InBlock, IsRow}
 use Rattle.hy_tree.proofs.Bits.{wider_same, half_power}
 use Rattle.hy_tree.proofs.Putting.{div_le}
