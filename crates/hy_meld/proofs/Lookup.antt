@@ -1,20 +1,22 @@
 -- Which marks hold a key, in the order of their blocks.
-use Rattle.std.proofs.Common.{◌≡◌, ◌⊎◌, ℕ, zero, suc, ◌+◌, ◌-◌, ◌*◌, ◌/◌, ◌%◌, ◌^◌, ◌<◌, ◌≤◌, Bool, true, false, ltb, List, [], ◌∷◌, ◌++◌, length, get_or, take, Option, Some, None, refl, sym, ap, ◌∙◌, subst, arith, inl, inr, add-one}
-use Rattle.std.specs.List.{AllByRecursion, AllWithin}
-use Rattle.std.specs.List.Sorted.{IsNonDecreasingBy, IsPartitionPoint, IsPartitionedBy}
+use Rattle.std.proofs.Common.{◌≡◌, ◌⊎◌, ℕ, zero, suc, ◌+◌, ◌-◌, ◌*◌, ◌/◌, ◌%◌, ◌^◌, ◌<◌, ◌≤◌, Bool, true, false, ltb, List, [], ◌∷◌, length, get_or, take, Option, Some, None, refl, sym, ap, ◌∙◌, subst, arith, inl, inr, add-one}
+use Rattle.std.specs.List.{AllByRecursion}
+use Rattle.std.specs.List.Sorted.{IsNonDecreasingBy, IsPartitionPoint}
 use Rattle.std.proofs.lemmas.Bool.{cases_Bool, cases_lt, leb-true, le-leb, ltb-true, ltb-false, and_parts, and_from, or_cases, eqb-true}
-use Rattle.std.proofs.lemmas.List.{take_more}
-use Rattle.std.proofs.lemmas.List.Sorted.{IsPartitionedBy-ltb}
-use Rattle.std.proofs.lemmas.Nat.{pow_pos, div-add-mod', div-mul-add}
+use Rattle.std.proofs.lemmas.List.{take_more, take_all}
+use Rattle.std.proofs.lemmas.Nat.{div-add-mod', div-mul-add}
 use Rattle.std.proofs.Math.Nat.{two-pow-succ, mul-le-mul_right}
 use Rattle.hy_base.specs.declared.record.Span.{Span}
 use Rattle.hy_base.specs.declared.record.Mark.{Mark}
 use Rattle.hy_base.specs.Entry.{is_in_span, span_before}
-use Rattle.hy_base.specs.Marks.{dep, lesser}
+use Rattle.hy_base.specs.declared.record.Row.{Row}
+use Rattle.hy_base.specs.Rows.{Each}
+use Rattle.hy_base.specs.Marks.{dep, lesser, clash}
 use Rattle.hy_mark.specs.Blocks.{IsBlock}
 use Rattle.hy_mark.specs.Orders.{IsBefore, AreOrdered, ArePairs}
 use Rattle.hy_mark.proofs.Widths.{aligned_less}
-use Rattle.hy_mark.proofs.Deps.{lesser_comm, lesser_assoc, dep_one, dep_append, dep_last, dep_cons}
+use Rattle.hy_mark.proofs.Deps.{lesser_assoc, dep_last}
+use Rattle.hy_tree.specs.TreeRows.{InBlock, IsRow}
 use Rattle.hy_tree.proofs.Bits.{wider_same, half_power}
 use Rattle.hy_tree.proofs.Putting.{div_le}
 use Rattle.hy_meld.specs.Roots.{Meets}
@@ -140,7 +142,7 @@ passed xs end bound r d key pairs some le miss low others cut =
     let less : r < end =
     elim (cases_lt r end) [ inl h ↦ h | inr h ↦ absurd (omega (arith, cut.0 (end - 1) d (omega arith) (omega arith))) ] in
     let each : (i : ℕ) → r ≤ i → i < end → is_in_span key (get_or xs i d).block ≡ false = λ i up lt.
-      not_true (is_in_span key (get_or xs i d).block) (λ t. missed xs i (end - 1) bound d key pairs (omega arith) (omega arith) miss others (cut.1 i d up (omega arith)) t) in
+    not_true (is_in_span key (get_or xs i d).block) (λ t. missed xs i (end - 1) bound d key pairs (omega arith) (omega arith) miss others (cut.1 i d up (omega arith)) t) in
     let e : end ≡ r + (end - r) = omega arith in
     (less, subst (λ k. dep (take k xs) key ≡ dep (take r xs) key) (sym e) (all_miss xs r (end - r) d key (omega arith) (λ i up lt. each i up (omega arith))))
 
@@ -151,3 +153,40 @@ hit xs end d key known some le t =
     ap (λ k. lesser known (dep (take k xs) key)) e
     ∙ (ap (lesser known) (last_holds xs (end - 1) d key (omega arith) t)
     ∙ sym (lesser_assoc known (Some (get_or xs (end - 1) d).dependency) (dep (take (end - 1) xs) key)))
+
+-- ---- blocks that no mark meets
+
+some_lesser : (a : ℕ) (b : Option ℕ) → lesser (Some a) b ≡ None → ⊥
+some_lesser a None e = cc
+some_lesser a (Some b) e = cc
+
+none_holds : (xs : List Mark) (key : ℕ) (i : ℕ) (d : Mark) → dep xs key ≡ None → i < length xs → is_in_span key (get_or xs i d).block ≡ true → ⊥
+none_holds [] key i d e lt t = absurd (omega arith)
+none_holds (x ∷ xs) key zero d e lt t = let f : lesser (Some x.dependency) (dep xs key) ≡ None = rw t at e in some_lesser x.dependency (dep xs key) f
+none_holds (x ∷ xs) key (suc i) d e lt t =
+    elim (cases_Bool (is_in_span key x.block)) [
+      | inl u ↦ let f : lesser (Some x.dependency) (dep xs key) ≡ None = rw u at e in absurd (some_lesser x.dependency (dep xs key) f)
+      | inr u ↦ let f : dep xs key ≡ None = rw u at e in none_holds xs key i d f (omega arith) t
+    ]
+
+-- no mark holds the first key of a block, and none begins within it
+pub unmarked : (xs : List Mark) (lo hi next : ℕ) (d : Mark) → AreOrdered xs → IsPartitionPoint (λ (m : Mark). m.block.lo < lo) (λ (m : Mark). lo ≤ m.block.lo) xs next
+    → (next < length xs → hi < (get_or xs next d).block.lo) → dep xs lo ≡ None → (key : ℕ) → lo ≤ key → key ≤ hi → dep xs key ≡ None
+unmarked xs lo hi next d o cut behind e key low high =
+    let each : (i : ℕ) → 0 ≤ i → i < 0 + length xs → is_in_span key (get_or xs i d).block ≡ false = λ i z lt.
+    not_true (is_in_span key (get_or xs i d).block) (λ t.
+    let within = in_span key (get_or xs i d).block t in
+    elim (cases_lt i next) [
+      | inl h ↦
+          none_holds xs lo i d e (omega arith)
+          (and_from _ _ (le-leb (get_or xs i d).block.lo lo (omega (arith, cut.0 i d (omega arith) h))) (le-leb lo (get_or xs i d).block.hi (omega (arith, within.1))))
+      | inr h ↦ omega (arith, rising xs o next i d h (omega arith), behind (omega arith), within.0)
+    ]) in
+    ap (λ ms. dep ms key) (sym (take_all (0 + length xs) xs (omega arith))) ∙ all_miss xs 0 (length xs) d key (omega arith) each
+
+pub unmarked_clash : (marks : List Mark) (bits p lo hi : ℕ) (rows : List Row) → InBlock bits p rows → Each IsRow rows
+    → ((key : ℕ) → key < 2 ^ 64 → key / 2 ^ bits ≡ p → (lo ≤ key) × (key ≤ hi)) → ((key : ℕ) → lo ≤ key → key ≤ hi → dep marks key ≡ None) → clash rows marks ≡ None
+unmarked_clash marks bits p lo hi [] b v within none = refl
+unmarked_clash marks bits p lo hi (r ∷ rs) b v within none =
+    let here = within r.key v.0.key b.0 in
+    rw (none r.key here.0 here.1) (unmarked_clash marks bits p lo hi rs b.1 v.1 within none)
