@@ -1,8 +1,10 @@
 //! Texts of a log with an open group, and lines that no whole call writes. The other texts are those of whole calls.
 ghost use Rattle.std.specs.Prelude.{◌≡◌, None};
 
-use hy_base::{Clash, Entry, Intention, Items, Points, Shape, Span, Spans, Value, Verdict, Write};
-use hy_text::{memory_line, page_line, write_check, write_dump};
+use hy_base::{
+    Clash, Entry, Intention, Items, Points, Row, Shape, Shared, Span, Spans, Value, Verdict, Write,
+};
+use hy_text::{memory_line, page_line, write_check, write_dump, write_summary};
 use std::alloc::Global;
 use std::test::Fail;
 
@@ -70,6 +72,45 @@ fn an_open_group_waits(rt: HostRuntime) -> Result<(), Fail> {
     let check = check_of_three(rt.alloc(), &[refused, None])?;
     let wanted = b"at 1 abort pre 1 by 7\nat 2 filler\nat 3 waits\nstate 2 rows 0\n";
     assert_eq!(rt; check.as_slice(), wanted.as_slice());
+    Ok(())
+}
+
+// An entry, and a filler behind it.
+fn one_and_a_filler(alloc: Global) -> Result<Vec<Shared<Entry>>, Fail> {
+    let one = Shared::new(alloc, one_put(alloc)?)?;
+    let filler = Shared::new(alloc, Entry::filler(1))?;
+    Ok(vec![in alloc; one, filler]?)
+}
+
+#[test]
+fn a_load_is_summed_up(rt: HostRuntime) -> Result<(), Fail> {
+    let alloc = rt.alloc();
+    let entries = one_and_a_filler(alloc)?;
+    let clash = Clash { key: 1, by: 7 };
+    let verdicts = [
+        Some(Verdict::Commit),
+        None,
+        Some(Verdict::Mate(clash)),
+        Some(Verdict::Final(clash)),
+        Some(Verdict::Final(clash)),
+    ];
+    let row = Row {
+        key: 1,
+        writer: 1,
+        value: None,
+    };
+    let summary = write_summary(
+        alloc,
+        18446744073709551615,
+        80000,
+        &entries,
+        &verdicts,
+        3,
+        &[row],
+    )?;
+    let wanted =
+        b"load seed 18446744073709551615 size 80000\nentries 2 fillers 1\ncommit 1 pre 0 mate 1 final 2 read 3\nstate 2 rows 1\n";
+    assert_eq!(rt; summary.as_slice(), wanted.as_slice());
     Ok(())
 }
 

@@ -12,17 +12,39 @@ fn read(alloc: Global, line: &str) -> Result<Result<Line, CliError>, AllocError>
     Ok(parse(alloc, &words))
 }
 
+fn run(threads: u8, point: bool, save: bool) -> Line {
+    Line::Run {
+        threads,
+        point,
+        save,
+    }
+}
+
+fn load(seed: u64, size: u32, threads: u8) -> Line {
+    Line::Load {
+        seed,
+        size,
+        threads,
+    }
+}
+
 #[test]
 fn lines_are_obeyed(rt: HostRuntime) -> Result<(), Fail> {
     let alloc = rt.alloc();
     let table = [
-        ("hyder run", Line::Run { threads: 2 }),
-        ("hyder run --threads 16", Line::Run { threads: 16 }),
+        ("hyder run", run(2, false, false)),
+        ("hyder run --threads 16", run(16, false, false)),
+        ("hyder run --point", run(2, true, false)),
+        ("hyder run --save --threads 1 --point", run(1, true, true)),
         ("hyder sim", Line::Sim { threads: 2 }),
         ("hyder sim --threads 1", Line::Sim { threads: 1 }),
-        ("hyder sim --threads 16", Line::Sim { threads: 16 }),
         ("hyder recover", Line::Recover),
         ("hyder check", Line::Check),
+        ("hyder load --seed 0 --size 1", load(0, 1, 2)),
+        (
+            "hyder load --threads 16 --size 80000 --seed 18446744073709551615",
+            load(18446744073709551615, 80000, 16),
+        ),
     ];
     for (line, wanted) in table {
         assert!(rt; read(alloc, line)? == Ok(wanted));
@@ -46,7 +68,8 @@ fn other_words_are_refused(rt: HostRuntime) -> Result<(), Fail> {
         "hyder run --help",
         "hyder run --threads 0",
         "hyder run --threads 17",
-        "hyder run --save",
+        "hyder run --save --save",
+        "hyder run --size 1",
         "hyder sim --threads 0",
         "hyder sim --threads 17",
         "hyder sim --threads",
@@ -55,6 +78,12 @@ fn other_words_are_refused(rt: HostRuntime) -> Result<(), Fail> {
         "hyder sim sim",
         "hyder recover --threads 2",
         "hyder check now",
+        "hyder load --seed 7",
+        "hyder load --size 7",
+        "hyder load --seed 7 --size 0",
+        "hyder load --seed 7 --size 80001",
+        "hyder load --seed 18446744073709551616 --size 1",
+        "hyder load --seed 7 --size 1 --save",
     ];
     for line in table {
         assert!(rt; read(alloc, line)? == Err(CliError::Usage));

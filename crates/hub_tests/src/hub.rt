@@ -24,7 +24,7 @@ type Trial = (Hub<MemDisk>, Pass<Contents<MemDisk>>);
 // A log without entries on a device, with room for a few appends.
 fn log_on(alloc: Global, shape: Shape) -> Result<PageLog<MemDisk>, Fail>
     requires { IsGoodShape shape }
-    ensures { IfOk result (λ log. (log.stopped ≡ None) × (log.bodies ≡ []) × (log.shape ≡ shape)) }
+    ensures { IfOk result (λ log. (log.stopped ≡ None) × (log.batch ≡ []) × (log.bodies ≡ []) × (log.shape ≡ shape)) }
 {
     let mut disk = MemDisk::new(alloc, &[], &[])?;
     disk.room(65536, 200)?;
@@ -39,7 +39,7 @@ fn log_on(alloc: Global, shape: Shape) -> Result<PageLog<MemDisk>, Fail>
 
 // A hub of two servers with a client each, which has three programs.
 fn hub_on(alloc: Global, shape: Shape, log: PageLog<MemDisk>) -> Result<Trial, Fail>
-    requires { IsGoodShape shape × (log.stopped ≡ None) × (log.bodies ≡ []) × (log.shape ≡ shape) }
+    requires { IsGoodShape shape × (log.stopped ≡ None) × (log.batch ≡ []) × (log.bodies ≡ []) × (log.shape ≡ shape) }
     ensures trial { IfOk result (λ r. IsTrial r.0 shape r.1) }
     ensures parts { IfOk result (λ r. (r.0.parts ≡ 129) × (r.1.parts ≡ 129)) }
 {

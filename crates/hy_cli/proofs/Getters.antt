@@ -9,7 +9,7 @@ use Rattle.clap.specs.declared.parser.matches.Found.{Found}
 use Rattle.clap.proofs.ValueTestLemmas.{accepts-Accepts}
 use Rattle.clap.proofs.WalkLemmas.{both, one_text-rows}
 use Rattle.hy_base.specs.Spelling.{Text}
-use Rattle.hy_cli.specs.CommandLine.{command_named, threads_option}
+use Rattle.hy_cli.specs.CommandLine.{command_named, point_option, save_option, seed_option, size_option, threads_option}
 use Rattle.hy_cli.specs.Matches.{choices_found, has_accepted, is_accepted}
 use Rattle.hy_cli.proofs.Walks.{bytes_same, flag_opt, number_opt}
 
@@ -50,27 +50,41 @@ reads_flag needed f id r none on off accepted = go (one_of id (rows_of f)) refl
     go (Some t) is = rw is (read t is (bytes_eq t (codes "true")) (bytes_eq t (codes "false")) refl refl (rw is at accepted))
 
 -- the last of the commands that a name can be
-pub sim_left : (name : Text) → is_some (command_named name) ≡ true → (name ≡ codes "recover" → ⊥) → (name ≡ codes "check" → ⊥) → (name ≡ codes "run" → ⊥) → name ≡ codes "sim"
-sim_left name known recover check run =
-    go (bytes_eq (codes "run") name) (bytes_eq (codes "sim") name) (bytes_eq (codes "recover") name) (bytes_eq (codes "check") name) refl refl refl refl
+pub load_left : (name : Text) → is_some (command_named name) ≡ true → (name ≡ codes "recover" → ⊥) → (name ≡ codes "check" → ⊥) → (name ≡ codes "run" → ⊥) → (name ≡ codes "sim" → ⊥)
+    → name ≡ codes "load"
+load_left name known recover check run sim =
+    go (bytes_eq (codes "run") name) (bytes_eq (codes "sim") name) (bytes_eq (codes "recover") name) (bytes_eq (codes "check") name) (bytes_eq (codes "load") name) refl refl refl refl refl
   where
-    go : (n s r c : Bool) → bytes_eq (codes "run") name ≡ n → bytes_eq (codes "sim") name ≡ s → bytes_eq (codes "recover") name ≡ r → bytes_eq (codes "check") name ≡ c → name ≡ codes "sim"
-    go true s r c is _ _ _ = absurd (run (sym (bytes_same (codes "run") name is)))
-    go false true r c _ is _ _ = sym (bytes_same (codes "sim") name is)
-    go false false true c _ _ is _ = absurd (recover (sym (bytes_same (codes "recover") name is)))
-    go false false false true _ _ _ is = absurd (check (sym (bytes_same (codes "check") name is)))
-    go false false false false o p q r = absurd (true≢false (sym (rw (o, p, q, r) at known)))
+    go : (n s r c l : Bool) → bytes_eq (codes "run") name ≡ n → bytes_eq (codes "sim") name ≡ s → bytes_eq (codes "recover") name ≡ r → bytes_eq (codes "check") name ≡ c
+        → bytes_eq (codes "load") name ≡ l → name ≡ codes "load"
+    go true s r c l is _ _ _ _ = absurd (run (sym (bytes_same (codes "run") name is)))
+    go false true r c l _ is _ _ _ = absurd (sim (sym (bytes_same (codes "sim") name is)))
+    go false false true c l _ _ is _ _ = absurd (recover (sym (bytes_same (codes "recover") name is)))
+    go false false false true l _ _ _ is _ = absurd (check (sym (bytes_same (codes "check") name is)))
+    go false false false false true _ _ _ _ is = sym (bytes_same (codes "load") name is)
+    go false false false false false o p q r t = absurd (true≢false (sym (rw (o, p, q, r, t) at known)))
 
--- what a `run` has, and what a `sim` has
-pub run_accepted : (name : Text) (rows : List Row) → name ≡ codes "run" → has_accepted name rows ≡ true → is_accepted rows threads_option ≡ true
+-- what a `run` has, a `sim`, and a `load`
+pub run_accepted : (name : Text) (rows : List Row) → name ≡ codes "run" → has_accepted name rows ≡ true
+    → (is_accepted rows threads_option ≡ true) × (is_accepted rows point_option ≡ true) × (is_accepted rows save_option ≡ true)
 run_accepted name rows is accepted =
     let all : has_accepted (codes "run") rows ≡ true = subst (λ (x : Text). has_accepted x rows ≡ true) is accepted in
-    (both (is_accepted rows threads_option) _ all).0
+    let p = both (is_accepted rows threads_option) _ all in
+    let q = both (is_accepted rows point_option) _ p.1 in
+    (p.0, q.0, (both (is_accepted rows save_option) _ q.1).0)
 
 pub sim_accepted : (name : Text) (rows : List Row) → name ≡ codes "sim" → has_accepted name rows ≡ true → is_accepted rows threads_option ≡ true
 sim_accepted name rows is accepted =
     let all : has_accepted (codes "sim") rows ≡ true = subst (λ (x : Text). has_accepted x rows ≡ true) is accepted in
     (both (is_accepted rows threads_option) _ all).0
+
+pub load_accepted : (name : Text) (rows : List Row) → name ≡ codes "load" → has_accepted name rows ≡ true
+    → (is_accepted rows seed_option ≡ true) × (is_accepted rows size_option ≡ true) × (is_accepted rows threads_option ≡ true)
+load_accepted name rows is accepted =
+    let all : has_accepted (codes "load") rows ≡ true = subst (λ (x : Text). has_accepted x rows ≡ true) is accepted in
+    let p = both (is_accepted rows seed_option) _ all in
+    let q = both (is_accepted rows size_option) _ p.1 in
+    (p.0, q.0, (both (is_accepted rows threads_option) _ q.1).0)
 
 -- a number that clap took lies in the bounds of its option, where the one that stands for none does
 pub found_in_range : (low high otherwise : ℕ) (id : Text) (rows : List Row) → is_accepted rows (number_opt low high id false) ≡ true → low ≤ otherwise → otherwise ≤ high

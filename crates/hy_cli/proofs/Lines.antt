@@ -8,11 +8,11 @@ use Rattle.clap.specs.Simple.{Shape, built, entered, rows_at, is_simple, label_o
 use Rattle.clap.specs.Takes.{takes, walk_passes}
 use Rattle.clap.proofs.WalkLemmas.{walk_stopped}
 use Rattle.hy_base.specs.Spelling.{Text}
-use Rattle.hy_cli.specs.CommandLine.{CliCommand, CliOption, Given, check_command, choices_given, command_line, command_named, commands, given_all, line_of, recover_command, run_command, sim_command, threads_option}
+use Rattle.hy_cli.specs.CommandLine.{CliCommand, CliOption, Given, check_command, choices_given, command_line, command_named, commands, given_all, line_of, load_command, point_option, recover_command, run_command, save_option, seed_option, sim_command, size_option, threads_option}
 use Rattle.hy_cli.specs.Matches.{choices_found, hyder_app, line_found, meant}
 use Rattle.hy_cli.specs.declared.line.Line.{Line}
-use Rattle.hy_cli.specs.declared.line.Line.TheVariants.{Run, Sim}
-use Rattle.hy_cli.proofs.Matches.{number_same}
+use Rattle.hy_cli.specs.declared.line.Line.TheVariants.{Run, Sim, Load}
+use Rattle.hy_cli.proofs.Matches.{flag_same, number_same}
 use Rattle.hy_cli.proofs.Walks.{AreRight, built_rules, bytes_same, leaf_shape}
 use Rattle.hy_cli.proofs.Levels.{IsTable, leaf_takes, rows_of_all}
 
@@ -21,9 +21,35 @@ use Rattle.hy_cli.proofs.Levels.{IsTable, leaf_takes, rows_of_all}
 no_table : IsTable []
 no_table = record { known = tt; defaults = refl; free = refl }
 
-threads_table : IsTable (threads_option ∷ [])
-threads_table = record {
+sim_table : IsTable sim_command.options
+sim_table = record {
   known = (record { long = refl; dashes = refl; by_long = refl; by_id = refl; by_name = refl }, tt);
+  defaults = refl;
+  free = refl;
+}
+
+run_table : IsTable run_command.options
+run_table = record {
+  known = (
+    record { long = refl; dashes = refl; by_long = refl; by_id = refl; by_name = refl },
+    (
+      record { long = refl; dashes = refl; by_long = refl; by_id = refl; by_name = refl },
+      (record { long = refl; dashes = refl; by_long = refl; by_id = refl; by_name = refl }, tt),
+    ),
+  );
+  defaults = refl;
+  free = refl;
+}
+
+load_table : IsTable load_command.options
+load_table = record {
+  known = (
+    record { long = refl; dashes = refl; by_long = refl; by_id = refl; by_name = refl },
+    (
+      record { long = refl; dashes = refl; by_long = refl; by_id = refl; by_name = refl },
+      (record { long = refl; dashes = refl; by_long = refl; by_id = refl; by_name = refl }, tt),
+    ),
+  );
   defaults = refl;
   free = refl;
 }
@@ -53,11 +79,11 @@ pub record Enters (name : Text) (options : List CliOption) : Type 0 where
 
 run_enters : Enters run_command.name run_command.options
 unfolding walked walk_passes
-run_enters = record { met = refl; passes = λ rest. refl; found = refl; table = threads_table }
+run_enters = record { met = refl; passes = λ rest. refl; found = refl; table = run_table }
 
 sim_enters : Enters sim_command.name sim_command.options
 unfolding walked walk_passes
-sim_enters = record { met = refl; passes = λ rest. refl; found = refl; table = threads_table }
+sim_enters = record { met = refl; passes = λ rest. refl; found = refl; table = sim_table }
 
 recover_enters : Enters recover_command.name []
 unfolding walked walk_passes
@@ -66,6 +92,10 @@ recover_enters = record { met = refl; passes = λ rest. refl; found = refl; tabl
 check_enters : Enters check_command.name []
 unfolding walked walk_passes
 check_enters = record { met = refl; passes = λ rest. refl; found = refl; table = no_table }
+
+load_enters : Enters load_command.name load_command.options
+unfolding walked walk_passes
+load_enters = record { met = refl; passes = λ rest. refl; found = refl; table = load_table }
 
 -- the words after the command's name are left to the command
 pub walk_ends : (name : Text) (options : List CliOption) → Enters name options → (rest : List Text)
@@ -95,10 +125,23 @@ AreRows [] = Unit {0}
 AreRows (c ∷ cs) = IsRow c × AreRows cs
 
 run_means : (g : Given) → AreRight run_command.options g → run_command.line (choices_found (rows_of_all run_command.options g)) ≡ run_command.line (choices_given g)
-run_means g right = ap (λ n. Run n) (number_same run_command.options (codes "threads") 1 16 2 threads_option g (rows_of_all run_command.options g) right refl refl refl refl)
+run_means g right =
+    let rows = rows_of_all run_command.options g in
+    let threads = number_same run_command.options (codes "threads") 1 16 2 threads_option g rows right refl refl refl refl in
+    let point = flag_same run_command.options (codes "point") point_option _ g rows right refl refl refl refl refl in
+    let save = flag_same run_command.options (codes "save") save_option _ g rows right refl refl refl refl refl in
+    λ i. Run (threads i) (point i) (save i)
 
 sim_means : (g : Given) → AreRight sim_command.options g → sim_command.line (choices_found (rows_of_all sim_command.options g)) ≡ sim_command.line (choices_given g)
 sim_means g right = ap (λ n. Sim n) (number_same sim_command.options (codes "threads") 1 16 2 threads_option g (rows_of_all sim_command.options g) right refl refl refl refl)
+
+load_means : (g : Given) → AreRight load_command.options g → load_command.line (choices_found (rows_of_all load_command.options g)) ≡ load_command.line (choices_given g)
+load_means g right =
+    let rows = rows_of_all load_command.options g in
+    let seed = number_same load_command.options (codes "seed") 0 18446744073709551615 0 seed_option g rows right refl refl refl refl in
+    let size = number_same load_command.options (codes "size") 1 80000 1 size_option g rows right refl refl refl refl in
+    let threads = number_same load_command.options (codes "threads") 1 16 2 threads_option g rows right refl refl refl refl in
+    λ i. Load (seed i) (size i) (threads i)
 
 all_rows : AreRows commands
 all_rows = (
@@ -107,7 +150,7 @@ all_rows = (
     record { enters = sim_enters; means = sim_means },
     (
       record { enters = recover_enters; means = λ g right. refl },
-      (record { enters = check_enters; means = λ g right. refl }, tt),
+      (record { enters = check_enters; means = λ g right. refl }, (record { enters = load_enters; means = load_means }, tt)),
     ),
   ),
 )

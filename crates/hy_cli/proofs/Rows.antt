@@ -1,10 +1,10 @@
 -- Worked command lines, computed by the definition.
-use Rattle.std.proofs.Common.{◌≡◌, refl, List, [], ◌∷◌, Option, Some, None, codes}
+use Rattle.std.proofs.Common.{◌≡◌, true, false, refl, List, [], ◌∷◌, Option, Some, None, codes}
 use Rattle.std.specs.Fmt.{digits}
 use Rattle.hy_base.specs.Spelling.{Text}
 use Rattle.hy_cli.specs.CommandLine.{line_of}
 use Rattle.hy_cli.specs.declared.line.Line.{Line}
-use Rattle.hy_cli.specs.declared.line.Line.TheVariants.{Run, Sim, Recover, Check}
+use Rattle.hy_cli.specs.declared.line.Line.TheVariants.{Run, Sim, Recover, Check, Load}
 
 abbrev hyder : List Text → Option Line
 hyder words = line_of (codes "hyder" ∷ words)
@@ -21,12 +21,30 @@ no_command = refl
 another_word : hyder (codes "frob" ∷ []) ≡ None
 another_word = refl
 
-two_threads_for_clients : hyder (codes "run" ∷ []) ≡ Some (Run 2)
+two_threads_for_clients : hyder (codes "run" ∷ []) ≡ Some (Run 2 false false)
 two_threads_for_clients = refl
 
-four_threads_for_clients : hyder (codes "run" ∷ threads ∷ codes "4" ∷ []) ≡ Some (Run 4)
+four_threads_for_clients : hyder (codes "run" ∷ threads ∷ codes "4" ∷ []) ≡ Some (Run 4 false false)
 unfolding digits
 four_threads_for_clients = refl
+
+point_and_save : hyder (codes "run" ∷ codes "--save" ∷ threads ∷ codes "4" ∷ codes "--point" ∷ []) ≡ Some (Run 4 true true)
+unfolding digits
+point_and_save = refl
+
+save_alone : hyder (codes "run" ∷ codes "--save" ∷ []) ≡ Some (Run 2 false true)
+save_alone = refl
+
+saved_twice : hyder (codes "run" ∷ codes "--save" ∷ codes "--save" ∷ []) ≡ None
+saved_twice = refl
+
+loads : hyder (codes "load" ∷ codes "--size" ∷ codes "80" ∷ codes "--seed" ∷ codes "7" ∷ []) ≡ Some (Load 7 80 2)
+unfolding digits
+loads = refl
+
+no_seed : hyder (codes "load" ∷ codes "--size" ∷ codes "80" ∷ []) ≡ None
+unfolding digits
+no_seed = refl
 
 two_threads : hyder (codes "sim" ∷ []) ≡ Some (Sim 2)
 two_threads = refl

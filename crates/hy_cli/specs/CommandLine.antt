@@ -1,13 +1,13 @@
 -- What the words of a command line ask for: one command with its options, or nothing.
 --     A command is a row of the table `commands`, and an option is one of its command's table. So a further command or option is a further row.
-use Rattle.std.specs.Prelude.{ℕ, Bool, false, not, ◌&&◌, ◌||◌, List, [], ◌∷◌, ◌++◌, Option, Some, None, if◌then◌else◌, codes, bytes_eq, option_map, option_and_then, slice_get, is_some}
+use Rattle.std.specs.Prelude.{ℕ, Bool, true, false, not, ◌&&◌, ◌||◌, List, [], ◌∷◌, ◌++◌, Option, Some, None, if◌then◌else◌, codes, bytes_eq, option_map, option_and_then, slice_get, is_some}
 use Rattle.std.specs.List.{find, list_all, list_any}
 use Rattle.std.specs.Option.{option_map_or}
 use Rattle.std.specs.Str.Parse.{digits_value}
 use Rattle.hy_base.specs.Spelling.{Text, number_of}
 use Rattle.hy_base.specs.Shape.{IsWithin, is_within}
 use Rattle.hy_cli.specs.declared.line.Line.{Line}
-use Rattle.hy_cli.specs.declared.line.Line.TheVariants.{Run, Sim, Recover, Check}
+use Rattle.hy_cli.specs.declared.line.Line.TheVariants.{Run, Sim, Recover, Check, Load}
 
 -- ---- options
 
@@ -54,8 +54,24 @@ pub record CliCommand : Type 0 where
 abbrev pub threads_option : CliOption
 threads_option = record { name = codes "threads"; kind = number 1 16; needed = false }
 
+abbrev pub point_option : CliOption
+point_option = record { name = codes "point"; kind = flag; needed = false }
+
+abbrev pub save_option : CliOption
+save_option = record { name = codes "save"; kind = flag; needed = false }
+
+abbrev pub seed_option : CliOption
+seed_option = record { name = codes "seed"; kind = number 0 18446744073709551615; needed = true }
+
+abbrev pub size_option : CliOption
+size_option = record { name = codes "size"; kind = number 1 80000; needed = true }
+
 abbrev pub run_command : CliCommand
-run_command = record { name = codes "run"; options = threads_option ∷ []; line = λ c. Run (c.number_or 2 (codes "threads")) }
+run_command = record {
+  name = codes "run";
+  options = threads_option ∷ point_option ∷ save_option ∷ [];
+  line = λ c. Run (c.number_or 2 (codes "threads")) (c.has (codes "point")) (c.has (codes "save"));
+}
 
 abbrev pub sim_command : CliCommand
 sim_command = record { name = codes "sim"; options = threads_option ∷ []; line = λ c. Sim (c.number_or 2 (codes "threads")) }
@@ -66,24 +82,34 @@ recover_command = record { name = codes "recover"; options = []; line = λ c. Re
 abbrev pub check_command : CliCommand
 check_command = record { name = codes "check"; options = []; line = λ c. Check }
 
+-- the seed and the size have to be given, so the number for one that is not is never taken
+abbrev pub load_command : CliCommand
+load_command = record {
+  name = codes "load";
+  options = seed_option ∷ size_option ∷ threads_option ∷ [];
+  line = λ c. Load (c.number_or 0 (codes "seed")) (c.number_or 1 (codes "size")) (c.number_or 2 (codes "threads"));
+}
+
 abbrev pub commands : List CliCommand
-commands = run_command ∷ sim_command ∷ recover_command ∷ check_command ∷ []
+commands = run_command ∷ sim_command ∷ recover_command ∷ check_command ∷ load_command ∷ []
 
 abbrev pub command_named : Text → Option CliCommand
 command_named word = find (λ c. bytes_eq c.name word) commands
 
 -- the numbers of a line are in their ranges
 abbrev pub IsInRange : Line → Type 0
-IsInRange (Run threads) = IsWithin 1 16 threads
+IsInRange (Run threads point save) = IsWithin 1 16 threads
 IsInRange (Sim threads) = IsWithin 1 16 threads
+IsInRange (Load seed size threads) = IsWithin 1 80000 size × IsWithin 1 16 threads
 IsInRange _ = Unit {0}
 
 -- the word for the command of a line
 abbrev pub command_word : Line → Text
-command_word (Run threads) = codes "run"
+command_word (Run threads point save) = codes "run"
 command_word (Sim threads) = codes "sim"
 command_word Recover = codes "recover"
 command_word Check = codes "check"
+command_word (Load seed size threads) = codes "load"
 
 -- ---- the words after the command
 

@@ -1,6 +1,6 @@
 //! What `clap` is told of the program.
 ghost use Rattle.std.specs.Prelude.{◌≡◌, IfOk, false};
-ghost use Rattle.hy_cli.specs.CommandLine.{run_command, sim_command, threads_option};
+ghost use Rattle.hy_cli.specs.CommandLine.{flag, load_command, run_command, seed_option, sim_command, size_option, threads_option};
 ghost use Rattle.hy_cli.specs.Matches.{app_for, hyder_app, rule_for};
 ghost use Rattle.clap.specs.Words.{app_of, rule_of};
 ghost use Rattle.clap.specs.declared.builder.command.Command.TheViews.{out-Command};
@@ -18,16 +18,57 @@ fn threads_arg<'a>(alloc: Global) -> Arg<'a>
         .value_parser(clap::value_parser!(u64).range(1..=16))
 }
 
+fn seed_arg<'a>(alloc: Global) -> Arg<'a>
+    ensures rule { rule_of result ≡ rule_for seed_option }
+    ensures local { result.global ≡ false }
+{
+    Arg::new(alloc, "seed")
+        .long("seed")
+        .action(ArgAction::Set)
+        .required(true)
+        .value_parser(clap::value_parser!(u64))
+}
+
+fn size_arg<'a>(alloc: Global) -> Arg<'a>
+    ensures rule { rule_of result ≡ rule_for size_option }
+    ensures local { result.global ≡ false }
+{
+    Arg::new(alloc, "size")
+        .long("size")
+        .action(ArgAction::Set)
+        .required(true)
+        .value_parser(clap::value_parser!(u64).range(1..=80000))
+}
+
+fn flag_arg<'a>(alloc: Global, name: &'a str) -> Arg<'a>
+    ensures rule { rule_of result ≡ rule_for (record { name = name.entry.now; kind = flag; needed = false }) }
+    ensures local { result.global ≡ false }
+{
+    Arg::new(alloc, name).long(name).action(ArgAction::SetTrue)
+}
+
 fn run_command<'a>(alloc: Global) -> Result<Command<'a>, AllocError>
     ensures { IfOk result (λ c. (app_of c ≡ app_for run_command.name run_command.options) × ((out-Command c).has_globals ≡ false)) }
 {
-    Command::new(alloc, "run").arg(threads_arg(alloc))
+    Command::new(alloc, "run")
+        .arg(threads_arg(alloc))?
+        .arg(flag_arg(alloc, "point"))?
+        .arg(flag_arg(alloc, "save"))
 }
 
 fn sim_command<'a>(alloc: Global) -> Result<Command<'a>, AllocError>
     ensures { IfOk result (λ c. (app_of c ≡ app_for sim_command.name sim_command.options) × ((out-Command c).has_globals ≡ false)) }
 {
     Command::new(alloc, "sim").arg(threads_arg(alloc))
+}
+
+fn load_command<'a>(alloc: Global) -> Result<Command<'a>, AllocError>
+    ensures { IfOk result (λ c. (app_of c ≡ app_for load_command.name load_command.options) × ((out-Command c).has_globals ≡ false)) }
+{
+    Command::new(alloc, "load")
+        .arg(seed_arg(alloc))?
+        .arg(size_arg(alloc))?
+        .arg(threads_arg(alloc))
 }
 
 /// The program with its commands. It has no help of its own: a word for help is a word like others.
@@ -41,5 +82,6 @@ pub(crate) fn hyder_command<'a>(alloc: Global) -> Result<Command<'a>, AllocError
         .subcommand(run_command(alloc)?)?
         .subcommand(sim_command(alloc)?)?
         .subcommand(Command::new(alloc, "recover"))?
-        .subcommand(Command::new(alloc, "check"))
+        .subcommand(Command::new(alloc, "check"))?
+        .subcommand(load_command(alloc)?)
 }

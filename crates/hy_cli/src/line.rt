@@ -8,14 +8,27 @@ use thiserror::Error;
 /// What a command line asks for.
 #[derive(Clone, Copy, Debug, PartialEq, Eq)]
 pub enum Line {
-    /// Run the clients beside each other over the log, rolling it on 1 to 16 threads.
-    Run { threads: u8 },
+    /// Run the clients concurrently over the log, rolling it on 1 to 16 threads, from the saved point where `point` says
+    /// so; and save a point once the run is finished, where `save` says so.
+    Run {
+        threads: u8,
+        point: bool,
+        save: bool,
+    },
     /// Run a schedule, on 1 to 16 threads.
-    Sim { threads: u8 },
+    Sim {
+        threads: u8,
+    },
     /// Print what the log holds.
     Recover,
     /// Print what the log means.
     Check,
+    /// Run a generated load of 1 to 80,000 programs, on 1 to 16 threads. Any seed is lawful.
+    Load {
+        seed: u64,
+        size: u32,
+        threads: u8,
+    },
 }
 
 /// Why a command line asks for nothing.
@@ -24,8 +37,8 @@ pub enum CliError {
     /// The words are no command of the program, or its options are wrong.
     #[error("the words are no command line")]
     Usage,
-    /// Memory was wanting.
-    #[error("memory was wanting")]
+    /// Out of memory.
+    #[error("out of memory")]
     Memory,
 }
 

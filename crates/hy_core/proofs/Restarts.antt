@@ -1,7 +1,7 @@
 -- What is kept after a stop has struck, and all have restarted.
-use Rattle.std.proofs.Common.{◌≡◌, ℕ, zero, suc, ◌+◌, ◌-◌, ◌<◌, ◌≤◌, Bool, true, false, List, [], ◌∷◌, ◌++◌, length, map, replicate, take, refl, ap, sym, ◌∙◌, subst, arith, add-one, length-append, append_assoc}
+use Rattle.std.proofs.Common.{◌≡◌, ℕ, zero, suc, ◌+◌, ◌<◌, ◌≤◌, Bool, true, false, List, [], ◌∷◌, ◌++◌, length, map, replicate, take, refl, ap, sym, ◌∙◌, subst, arith, add-one, append_assoc}
 use Rattle.std.proofs.lemmas.List.{append-nil, map-append}
-use Rattle.std.specs.Prelude.{All, Option, Some, None, is_none, is_some, option_map, option_and_then, option_to_list, unwrap_or, filter_map, ◌&&◌, ◌==◌, not, if◌then◌else◌}
+use Rattle.std.specs.Prelude.{All, Option, Some, None, is_some, option_map, option_and_then, option_to_list, unwrap_or, filter_map, ◌&&◌, ◌==◌, not, if◌then◌else◌}
 use Rattle.std.specs.Option.{option_map_or}
 use Rattle.std.specs.List.{AllByRecursion, enumerate_from}
 use Rattle.hy_base.specs.declared.record.EntryKind.{EntryKind}
@@ -26,7 +26,7 @@ use Rattle.hy_core.specs.declared.running.Running.{Running}
 use Rattle.hy_core.specs.declared.parts.Seat.{Seat}
 use Rattle.hy_core.specs.declared.parts.Answered.{Answered}
 use Rattle.hy_core.specs.declared.parts.End.TheVariants.{EntryAt, Stopped}
-use Rattle.hy_core.specs.Parts.{Holding, SeatFits, IsHolding, IsOnDevice, BegunSeat, Steps, leaving, told_of, IsSeat, IsAnswered, AreSeats, AreRestarted, HasRestarted, abandoned_seat, abandoned_told, all_abandoned, departed, kept_by, pages_with, state_of, done_of, ended_of}
+use Rattle.hy_core.specs.Parts.{Holding, SeatFits, IsHolding, IsOnDevice, BegunSeat, Steps, leaving, told_of, IsSeat, IsAnswered, AreSeats, AreRestarted, abandoned_seat, abandoned_told, all_abandoned, departed, kept_by, pages_with, state_of, done_of, ended_of}
 use Rattle.hy_core.specs.Replies.{HasFewPrograms}
 use Rattle.hy_core.proofs.Leaving.{left_seat, all_push, still_whole, begun_of, told_is, done_is, ended_is, sessions_are}
 use Rattle.hy_core.proofs.SeatLemmas.{seat_changes}

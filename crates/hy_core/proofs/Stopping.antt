@@ -1,14 +1,13 @@
 -- An append in which a stop strikes.
-use Rattle.std.proofs.Common.{◌≡◌, ◌⊎◌, inl, inr, ◌∙◌, ℕ, ◌+◌, ◌<◌, ◌≤◌, Bool, true, false, List, [], ◌∷◌, ◌++◌, length, map, refl, ap, sym, subst, arith}
+use Rattle.std.proofs.Common.{◌≡◌, inl, inr, ◌∙◌, ℕ, ◌+◌, ◌≤◌, Bool, true, false, List, [], ◌++◌, length, map, ap, sym, subst, arith}
 use Rattle.std.proofs.lemmas.List.{append-nil}
 use Rattle.std.proofs.lemmas.Bool.{cases_Bool}
-use Rattle.std.specs.Prelude.{Some, None, option_and_then, ◌^◌, if◌then◌else◌, replicate, unwrap_or}
+use Rattle.std.specs.Prelude.{Some, None, option_and_then, if◌then◌else◌, replicate}
 use Rattle.std.specs.List.{AllByRecursion}
 use Rattle.hy_base.specs.declared.record.EntryKind.{EntryKind}
 use Rattle.hy_base.specs.declared.workload.ArmedStop.{ArmedStop}
 use Rattle.hy_base.specs.declared.workload.Event.TheVariants.{Append}
 use Rattle.hy_base.specs.Log.{IsLawful}
-use Rattle.hy_base.specs.Lists.{nth}
 use Rattle.hy_base.specs.Script.{Workload, IsScript, IsClient}
 use Rattle.hy_base.proofs.NthLemmas.{All-nth}
 use Rattle.hy_rules.specs.Rolling.{Roll}
@@ -16,13 +15,13 @@ use Rattle.hy_rules.specs.Moves.{is_kept, is_begun}
 use Rattle.hy_rules.specs.Runs.{may_happen}
 use Rattle.hy_core.specs.declared.running.Running.{Running}
 use Rattle.hy_core.specs.declared.parts.Seat.{Seat}
-use Rattle.hy_core.specs.Parts.{Holding, SeatFits, departed, IsHolding, IsBegunAt, BegunSeat, LeavesEntry, NextFits, Leaves, HasRestarted, AreRestarted, Steps, left_entry, kept_by, struck, pages_with, state_of, abandoned_seat, all_abandoned}
+use Rattle.hy_core.specs.Parts.{Holding, SeatFits, departed, IsHolding, IsBegunAt, BegunSeat, LeavesEntry, NextFits, Leaves, HasRestarted, AreRestarted, Steps, left_entry, kept_by, struck, state_of, abandoned_seat, all_abandoned}
 use Rattle.hy_core.proofs.Leaving.{LeftEntry, left_entry_is}
 use Rattle.hy_core.proofs.LogGrowth.{lawful_kept}
 use Rattle.hy_core.proofs.Ending.{begun_at, append_begun, leaves_entry, next_fits}
 use Rattle.hy_core.proofs.SeatLemmas.{SeatedAt, seated_at}
 use Rattle.hy_core.proofs.Publishing.{all_change}
-use Rattle.hy_core.proofs.Restarts.{restarting, append_lost, append_kept, seats_fit}
+use Rattle.hy_core.proofs.Restarts.{append_lost, append_kept, seats_fit}
 
 -- the entry that is appended is the one that the program leaves
 abbrev pub IsLeft : Holding → ℕ → EntryKind → Type 0

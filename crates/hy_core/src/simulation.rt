@@ -1,16 +1,17 @@
 //! The core.
-ghost use Rattle.std.specs.Prelude.{◌≡◌, ◌⊎◌, ℕ, true, false, None, Err, IfOk, OnOk, OnErr, IsErrOf};
+ghost use Rattle.std.specs.Prelude.{◌≡◌, ◌⊎◌, ℕ, length, true, false, None, Err, IfOk, OnOk, OnErr, IsErrOf};
 ghost use Rattle.hy_base.specs.Shape.{IsWithin};
 ghost use Rattle.hy_rules.specs.Moves.{board_of, is_declared};
-ghost use Rattle.hy_rules.specs.Validation.{rows};
+ghost use Rattle.hy_rules.specs.Summary.{reads_in};
+ghost use Rattle.hy_rules.specs.Validation.{rows, verdicts};
 ghost use Rattle.hy_rules.specs.Runs.{setting_of, step, next_event, is_finished, results_at};
 ghost use Rattle.hy_core.specs.Course.{Course, IsReached, Advances, Breaks, Follows, FollowsSome, IsRefusedAt, Extends, Completes, opened};
 
 use crate::moves::perform;
 use crate::parts::{Parts, board_at, may_happen, open, roller_of};
-use crate::replies::all_replies;
+use crate::replies::{all_replies, all_verdicts, reads_in};
 use crate::tail::next_event;
-use hy_base::{Entry, Event, Items, Pos, Replies, Script, Shared};
+use hy_base::{Entry, Event, Items, Pos, Replies, Script, Shared, Verdict};
 use hy_pipe::Gate;
 use hy_tree::Tree;
 use std::alloc::{AllocError, Global};
@@ -197,6 +198,26 @@ impl Core {
             unreachable!();
         };
         all_replies(alloc, roller, &self.parts.told, clients)
+    }
+
+    /// The verdicts of a finished run's log, one for each position; a filler has none. `AllocError`: out of memory.
+    pub fn verdicts(&self, alloc: Global) -> Result<Vec<Option<Verdict>>, AllocError>
+        requires finished { is_finished self.now.script self.now.state ≡ true }
+        ensures { IfOk result (λ vs. vs.items ≡ verdicts self.now.script.shape self.now.state.log (length self.now.state.log)) }
+    {
+        // The shape of a script is good.
+        let _shape = self.script.shape();
+        let Some(roller) = roller_of(&self.parts.rollers, 1) else {
+            unreachable!();
+        };
+        all_verdicts(alloc, roller)
+    }
+
+    /// How many of the programs that ended only read.
+    pub fn reads(&self) -> usize
+        ensures { result ≡ reads_in self.now.ended }
+    {
+        reads_in(&self.parts.told)
     }
 
     /// The log, lent. Positions count from 1.

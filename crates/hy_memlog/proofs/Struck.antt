@@ -86,7 +86,7 @@ struck shape bodies body stop result content is behind gate = elim (cases_lt sto
 
 -- the log as it was, but for the order
 abbrev pub IsSame : View MemDisk → View MemDisk → Type 0
-IsSame armed log = (armed.shape ≡ log.shape) × (armed.stopped ≡ log.stopped) × (armed.bodies ≡ log.bodies) × (armed.spare ≡ log.spare)
+IsSame armed log = armed ≡ record log { disk = armed.disk }
 
 -- the append's clauses on the order
 abbrev pub WhereOrdered : View MemDisk → ℕ → ℕ → ℕ → Type 0 → Type 0
@@ -101,12 +101,14 @@ pub strike_leaves : (log armed : View MemDisk) (body : List ℕ) (stop : ArmedSt
     → IsStruck log.shape log.bodies body stop result content
 strike_leaves log armed body stop call result content ready some is_stop is same strikes room behind gate =
     let pages : ℕ = 1 + 256 * page_count (length body) in
-    let more : length armed.bodies ≢ armed.shape.cap = λ full. omega (arith, full, some, ap length same.2, ap (λ (s : Shape). s.cap) same.0) in
-    let running : armed.stopped ≡ None = same.1 ∙ ready.steady.running in
+    let shape : armed.shape ≡ log.shape = ap (λ (v : View MemDisk). v.shape) same in
+    let bodies : armed.bodies ≡ log.bodies = ap (λ (v : View MemDisk). v.bodies) same in
+    let more : length armed.bodies ≢ armed.shape.cap = λ full. omega (arith, full, some, ap length bodies, ap (λ (s : Shape). s.cap) shape) in
+    let running : armed.stopped ≡ None = ap (λ (v : View MemDisk). v.stopped) same ∙ ready.steady.running in
     let least : 1 ≤ call = omega (arith, is, is_stop.call.at_least) in
     let most : call ≤ 4 = omega (arith, is, is_stop.call.at_most) in
     let left : HasRoom armed.disk (call - 1) pages = room pages (room_shrinks log.disk call (4 * 1) pages (1 * (1 + 256 * page_count (length body))) ready.pages (omega (arith, most)) (omega arith)) in
-    subst (λ (k : Shape × List (List ℕ)). IsStruck k.0 k.1 body stop result content) (λ i. (same.0 i, same.2 i))
+    subst (λ (k : Shape × List (List ℕ)). IsStruck k.0 k.1 body stop result content) (λ i. (shape i, bodies i))
     (struck armed.shape armed.bodies body stop result content is_stop
     (λ early. behind more running call least (omega (arith, is, early)) strikes left)
     (λ late. gate more running call (omega (arith, is, late)) most strikes left))

@@ -1,5 +1,5 @@
 -- A log over a device in memory.
-use Rattle.std.specs.Prelude.{◌≡◌, ℕ, ◌+◌, ◌*◌, ◌≤◌, List, ◌++◌, replicate, Option, None}
+use Rattle.std.specs.Prelude.{◌≡◌, ℕ, ◌+◌, ◌*◌, ◌≤◌, List, [], ◌++◌, replicate, Option, None}
 use Rattle.hy_base.specs.declared.layout.Shape.{Shape}
 use Rattle.hy_base.specs.declared.workload.ArmedStop.{ArmedStop}
 use Rattle.hy_base.specs.Shape.{IsWithin}
@@ -15,9 +15,10 @@ pub record Pages : Type 0 where
   pub shape : Shape
   pub bodies : Option (List (List ℕ))
 
--- nothing is ordered to fail, and nothing has failed
+-- nothing is ordered to fail, nothing has failed, and no body waits to be written
 pub record IsSteady (log : View MemDisk) : Type 0 where
   pub running : log.stopped ≡ None
+  pub nothing_waits : log.batch ≡ []
   pub unarmed : IsUnarmed (Strikes log.disk)
   pub room : HasRoom log.disk 0 0
 

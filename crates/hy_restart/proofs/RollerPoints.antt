@@ -14,7 +14,7 @@ use Rattle.hy_pipe.specs.RollerLaws.{IsRoller}
 use Rattle.hy_points.proofs.Bases.{base_formula}
 use Rattle.hy_restart.specs.Saving.{point_of}
 
-again : (g n : ℕ) → 1 ≤ g → g * n / g ≡ n
+pub again : (g n : ℕ) → 1 ≤ g → g * n / g ≡ n
 again g n some = grind arith
 
 pub roller_point : (front : List EntryKind) (r : Roll) → IsGoodShape r.shape → Stands front r → PointStands front (point_of r)

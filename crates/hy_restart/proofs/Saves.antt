@@ -5,12 +5,11 @@ use Rattle.std.proofs.lemmas.Bool.{cases_eq, eqb-true}
 use Rattle.std.proofs.lemmas.List.{take_at, drop_more}
 use Rattle.hy_base.specs.declared.layout.Shape.{Shape}
 use Rattle.hy_base.specs.declared.record.EntryKind.{EntryKind}
-use Rattle.hy_rules.specs.LogFormat.{byte_at}
+use Rattle.hy_rules.specs.LogFormat.{byte_at, has_zero}
 use Rattle.hy_disk.specs.Content.{Content, Torn, settled}
 use Rattle.hy_rules.specs.Checkpoint.{Checkpoint, IsCheckpoint}
 use Rattle.hy_rules.specs.PointFormat.{IsStorable, body_bytes, point_rest, point_bytes, point_in, has_point, held_point}
 use Rattle.hy_points.proofs.Records.{point_again, point_size, record_is_page}
-use Rattle.hy_log.specs.Found.{has_zero}
 use Rattle.hy_log.specs.Gates.{IsGuarded, opened}
 use Rattle.hy_rules.specs.SavedPoints.{IsPointOf, StandsBehind, IsFit, IsLeftBySave}
 use Rattle.hy_restart.specs.Saving.{HoldsPoint, IsBehindGate, IsSaving, IsSaved}

@@ -1,2 +1,4 @@
 pub mod Saving
+pub mod Resuming
+pub mod Restart
 pub mod Laws

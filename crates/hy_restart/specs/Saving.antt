@@ -5,7 +5,7 @@ use Rattle.hy_disk.specs.Content.{Content, settled}
 use Rattle.hy_rules.specs.Rolling.{Roll, rolled_upto, next_base}
 use Rattle.hy_rules.specs.Checkpoint.{Checkpoint}
 use Rattle.hy_rules.specs.PointFormat.{held_point}
-use Rattle.hy_log.specs.Found.{has_zero}
+use Rattle.hy_rules.specs.LogFormat.{has_zero}
 use Rattle.hy_log.specs.Kept.{MayBeShut}
 
 -- the point of a roller: its rows at the premeld base of the next group, and which entries committed past that

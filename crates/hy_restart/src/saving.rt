@@ -4,7 +4,7 @@ ghost use Rattle.hy_base.specs.declared.record.EntryKind.{EntryKind};
 ghost use Rattle.hy_base.specs.Faults.{HasCause, Rose};
 ghost use Rattle.hy_disk.specs.Content.{Image, settled};
 ghost use Rattle.hy_disk.specs.Moments.{LeavesOnly};
-ghost use Rattle.hy_log.specs.Found.{has_zero};
+ghost use Rattle.hy_rules.specs.LogFormat.{has_zero};
 ghost use Rattle.hy_log.specs.Gates.{IsClosedAt};
 ghost use Rattle.hy_log.specs.Kept.{MayBeShut};
 ghost use Rattle.hy_rules.specs.SavedPoints.{IsPointOf, IsFit, IsLeftBySave};

@@ -19,6 +19,8 @@ by_fault script log source device A f g h k m status.Sink is = absurd is
 by_fault script log source device A f g h k m (status.Device one) is = k one is
 by_fault script log source device A f g h k m (status.Log place why) is = g (status.Log place why) refl is
 by_fault script log source device A f g h k m (status.Config field held asked) is = g (status.Config field held asked) refl is
+by_fault script log source device A f g h k m (status.Point place why) is = g (status.Point place why) refl is
+by_fault script log source device A f g h k m (status.Ahead point held) is = g (status.Ahead point held) refl is
 by_fault script log source device A f g h k m status.Memory is = m
 
 pub log_fault : (script : ℕ → Why → Type 0) (log : Status → Type 0) (source : Type 0) (device : Which → Type 0) (s : Status) → kind_of s ≡ log_refused → log s → IsFault script log source device s

@@ -3,7 +3,6 @@ use Rattle.std.proofs.Common.{◌≡◌, ◌≢◌, ◌∙◌, ℕ, Bool, true, 
 use Rattle.std.specs.Prelude.{◌⊎◌, Option, Some, Result, Ok, Err, IfErr, IsErr}
 use Rattle.hy_base.specs.declared.layout.Shape.{Shape}
 use Rattle.hy_base.specs.Faults.{Rose}
-use Rattle.hy_rules.specs.EntryFormat.{entries_past}
 use Rattle.hy_rules.specs.declared.damage.LogFault.{LogFault}
 use Rattle.hy_rules.specs.declared.damage.LogPlace.TheVariants.{Page}
 use Rattle.hy_rules.specs.Recovery.{Recovered}
@@ -13,8 +12,11 @@ use Rattle.hy_base.specs.Script.{Workload}
 use Rattle.hy_log.specs.declared.error.OpenError.{OpenError}
 use Rattle.hy_log.specs.declared.error.OpenError.TheVariants as opening
 use Rattle.hy_run.specs.Inspection.{IsDamaged, IsLogFault, open_fault}
-use Rattle.hy_run.specs.Running.{IsRunOn, entries_refused}
-use Rattle.hy_run.specs.RunningParts.{IsRanFault, IsScriptLeft, IsScriptOf, opening_status}
+use Rattle.hy_restart.specs.Restart.{restart_in}
+use Rattle.hy_run.specs.Devices.{Counts, Found}
+use Rattle.hy_run.specs.Running.{HasFailed, IsRunOn, IsSaving, LeavesPoint, restart_refused}
+use Rattle.hy_run.specs.RunningParts.{IsRanFault, IsSavingScript, IsScriptLeft, IsScriptOf, Opened, opening_status}
+use Rattle.hy_run.specs.declared.status.RunOptions.{RunOptions}
 use Rattle.hy_run.proofs.ByKind.{reaches_log}
 use Rattle.hy_run.specs.Obeying.{ends_early, ends_first}
 use Rattle.hy_run.specs.Output.{is_before_log, is_cut_off, kind_of}
@@ -32,10 +34,10 @@ pub log_reached : {V : Type 0} (text : Result V Status) (tells : Bool) (expected
 log_reached (Ok v) tells expected faults faults_now is = refl
 log_reached (Err s) tells expected faults faults_now is = reaches_log (IsDamaged tells expected) (λ device. (device ≡ which.Log) × Rose faults faults_now) s is
 
-pub ran_reached : {V : Type 0} (text : Result V Status) (tells : Bool) (asked shape : Shape) (bodies : List (List ℕ)) (faults faults_now acked : ℕ) → IfErr text (IsRanFault tells asked shape bodies faults faults_now acked) → ends_first text ≡ false
-ran_reached (Ok v) tells asked shape bodies faults faults_now acked is = refl
-ran_reached (Err s) tells asked shape bodies faults faults_now acked is =
-    reaches_log (λ s. ((IsTrue tells → entries_refused (entries_past shape 0 bodies) ≡ Some s) × (acked ≡ length bodies)) ⊎ (shape ≢ asked)) (λ one. (one ≡ which.Log) × Rose faults faults_now) s is
+pub ran_reached : {V : Type 0} (text : Result V Status) (options : RunOptions) (asked : Shape) (on : Opened) (counts : Counts) (acked : ℕ) → IfErr text (IsRanFault options asked on counts acked) → ends_first text ≡ false
+ran_reached (Ok v) options asked on counts acked is = refl
+ran_reached (Err s) options asked on counts acked is =
+    reaches_log (λ s. ((IsTrue on.tells → restart_refused (restart_in on.shape on.bodies options.from_point on.points) ≡ Some s) × (acked ≡ length on.bodies)) ⊎ (on.shape ≢ asked)) (HasFailed options counts) s is
 
 -- and so do those for a log that was not opened
 pub opening_reached : (error : OpenError) → is_before_log (kind_of (opening_status error)) ≡ false
@@ -63,4 +65,21 @@ pub left_as_asked : {D : Type 0} (told : Option Text) (script : Workload) (tells
 left_as_asked told script tells content moment left_since faults_of old new cut_off acked of is = record {
   later = is.later;
   left = λ knows. ⊎_elim (λ none. inl none) (λ opened. inr (script.shape, record { bytes = of.bytes; are_of = of.are_of; input = of.input; asked = of.asked; same = ap (λ (w : Workload). w.shape) of.same }, opened)) (is.left knows);
+}
+
+pub point_as_asked : {D : Type 0} (options : RunOptions) (told : Option Text) (script : Workload) (on : Found) (content : D → Content) (moment : D → ℕ) (left_since : D → ℕ → List ℕ → Type 0) (faults_of : D → ℕ) (old new : D) (may : Bool) (acked : ℕ) → IsScriptOf told script
+    → LeavesPoint options content moment left_since faults_of old new may (IsSavingScript options script.shape on content moment left_since old new acked) → LeavesPoint options content moment left_since faults_of old new may (IsSaving options told on content moment left_since old new acked)
+point_as_asked options told script on content moment left_since faults_of old new may acked of is = record {
+  later = is.later;
+  unused = is.unused;
+  unsaved = is.unsaved;
+  left = ⊎_elim (λ only. inl only) (λ saving. inr (record {
+    shape = script.shape;
+    asked = record { bytes = of.bytes; are_of = of.are_of; input = of.input; asked = of.asked; same = ap (λ (w : Workload). w.shape) of.same };
+    found = saving.found;
+    was_found = saving.was_found;
+    start = saving.start;
+    starts = saving.starts;
+    is = saving.is;
+  })) is.left;
 }

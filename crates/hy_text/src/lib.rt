@@ -1,12 +1,18 @@
 //! The texts that `hyder` prints, byte for byte.
 //!
-//! It promises to the crate above: the trace of a run's events, the report of its results, the dump of a log and what
-//! became of its entries are exactly the texts that the rules define, and so is the one line of a call that failed. Time
-//! is linear in what is written. Want of memory is the only refusal, and the lines for usage, source and memory take none.
+//! It promises to the crate above: the trace of a run's events, the report of its results, the dump of a log, what
+//! became of its entries and the summary of a load are exactly the texts that the rules define, and so is the one line of a
+//! call that failed. Time is linear in what is written. It refuses only where it is out of memory, and the lines for usage,
+//! source and memory take none.
 #![tactic(auto)]
 
 mod log_texts;
+mod summary;
 mod texts;
 
-pub use log_texts::{config_line, device_line, entry_line, page_line, write_check, write_dump};
+pub use log_texts::{
+    ahead_line, config_line, device_line, entry_line, page_line, point_line, write_check,
+    write_dump,
+};
+pub use summary::write_summary;
 pub use texts::{memory_line, script_line, source_line, usage_line, write_report, write_trace};

@@ -4,7 +4,7 @@
 ghost use Rattle.std.specs.Prelude.{◌≡◌, ◌∷◌, ◌+◌, ◌-◌, ◌++◌, [], length, codes, decimal, flat_map, IfOk, OnOk};
 ghost use Rattle.std.specs.List.{enumerate_from};
 ghost use Rattle.hy_base.specs.Spelling.{line};
-ghost use Rattle.hy_rules.specs.Texts.{check_text, config_fault_text, device_fault_text, dump_text, entry_fault_text, entry_text, judged_text, page_fault_text, row_text, waiting_text};
+ghost use Rattle.hy_rules.specs.Texts.{ahead_fault_text, check_text, config_fault_text, device_fault_text, dump_text, entry_fault_text, entry_text, judged_text, page_fault_text, point_fault_text, row_text, waiting_text};
 
 use crate::texts::{Word, put_line, put_rows, put_verdict};
 use hy_base::{Entry, EntryKind, Intention, Pos, Row, Shape, Verdict};
@@ -219,5 +219,29 @@ pub fn config_line(alloc: Global, field: &str, log: u32, script: u32) -> Result<
         Word::Number(script as u64),
     ];
     put_line(&mut out, b"hyder: config", &words)?;
+    Ok(out)
+}
+
+/// The line for a saved point that is refused: at which byte of its device, from 0 on, and why.
+pub fn point_line(alloc: Global, byte: u64, why: &str) -> Result<Vec<u8>, AllocError>
+    ensures { IfOk result (λ text. text.items ≡ point_fault_text byte why.now) }
+{
+    let mut out = Vec::new(alloc);
+    let words = [Word::Number(byte), Word::Plain(why.as_bytes())];
+    put_line(&mut out, b"hyder: point byte", &words)?;
+    Ok(out)
+}
+
+/// The line for a saved point that is further than the log: its position, and how many entries the log has.
+pub fn ahead_line(alloc: Global, point: Pos, log: Pos) -> Result<Vec<u8>, AllocError>
+    ensures { IfOk result (λ text. text.items ≡ ahead_fault_text point log) }
+{
+    let mut out = Vec::new(alloc);
+    let words = [
+        Word::Number(point as u64),
+        Word::Plain(b"log"),
+        Word::Number(log as u64),
+    ];
+    put_line(&mut out, b"hyder: point", &words)?;
     Ok(out)
 }

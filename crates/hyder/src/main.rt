@@ -1,17 +1,20 @@
 //! The program `hyder`: bytes in, text out, and a status.
 //!
 //! `hyder run` reads a script from the standard input and runs its clients over the log in the file `hyder.log` of the working
-//! directory; `hyder sim` runs a script with its schedule, and touches no file. Both write the trace and the report to the
-//! standard output. `hyder recover` writes the dump of the log, and `hyder check` what became of its entries. The status is 0
-//! where all of that text is written, 1 for a fault of usage, 2 for a script that is refused, 3 and 4 where the input or the
-//! output fails, 5 where a file fails, 6 for a log that is refused, 7 for one of another shape, and 9 where memory is
-//! wanting; all but 0 and 4 have one line. Nothing goes to the standard error.
+//! directory, from the point saved in `hyder.points` where `--point` asks for it, and saves one there where `--save` does;
+//! `hyder sim` runs a script with its schedule, and touches no file. Both write the trace and the report to the standard
+//! output. `hyder recover` writes the dump of the log, and `hyder check` what became of its entries. `hyder load` runs a
+//! generated script and writes its summary. The status is 0 where all of that text is written, 1 for a fault of usage, 2 for
+//! a script that is refused, 3 and 4 where the input or the output fails, 5 where a file fails, 6 for a log that is refused,
+//! 7 for one of another shape, 8 for a saved point that is refused or is further than the log, and 9 where it is out of
+//! memory; all but 0 and 4 have one line. Nothing goes to the standard error.
 #![tactic(auto)]
 
 ghost use Rattle.std.specs.Prelude.{◌≡◌, ℕ, IfOk, map, string_bytes};
 ghost use Rattle.std.specs.Vec.Iter.{into_iter_items};
 ghost use Rattle.std.specs.Process.{exit_status};
-ghost use Rattle.hy_run.specs.Answering.{Devices, IsCall, devices_of, ends_at};
+ghost use Rattle.hy_run.specs.Answering.{IsCall, ends_at};
+ghost use Rattle.hy_run.specs.Devices.{Devices, devices_of};
 ghost use Rattle.hy_run.specs.Output.{status_number};
 
 use hy_base::Words;

@@ -1,5 +1,5 @@
 //! Appends, reads, refusals and stops.
-ghost use Rattle.std.specs.Prelude.{◌≤◌, IfOk, IfSome};
+ghost use Rattle.std.specs.Prelude.{◌≡◌, ◌≤◌, [], IfOk, IfSome};
 ghost use Rattle.hy_base.specs.Shape.{IsGoodShape};
 
 use hy_base::{Field, Shape};
@@ -13,7 +13,8 @@ use std::test::Fail;
 /// log of the shape can be opened.
 pub fn log_with_room(alloc: Global, disk: MemDisk, shape: Shape) -> Option<PageLog<MemDisk>>
     requires { IsGoodShape shape }
-    ensures { IfSome result (λ log. 4 ≤ log.spare) }
+    ensures spare { IfSome result (λ log. 4 ≤ log.spare) }
+    ensures nothing_waits { IfSome result (λ log. log.batch ≡ []) }
 {
     let mut disk = disk;
     let Ok(()) = disk.room(4096, 40) else {
@@ -48,7 +49,8 @@ const SMALL: Shape = Shape {
 // A log of a shape on a device, with room and memory for a few appends.
 fn log_on(alloc: Global, disk: MemDisk, shape: Shape) -> Result<PageLog<MemDisk>, Fail>
     requires { IsGoodShape shape }
-    ensures { IfOk result (λ log. 4 ≤ log.spare) }
+    ensures spare { IfOk result (λ log. 4 ≤ log.spare) }
+    ensures nothing_waits { IfOk result (λ log. log.batch ≡ []) }
 {
     let Some(log) = log_with_room(alloc, disk, shape) else {
         return Err("not opened")?;

@@ -5,6 +5,8 @@
 #[cfg(test)]
 mod marks;
 #[cfg(test)]
+mod meld;
+#[cfg(test)]
 mod programs;
 #[cfg(test)]
 mod roller;

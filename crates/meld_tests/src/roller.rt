@@ -1,6 +1,8 @@
 //! Small logs, rolled whole and in every cut.
-ghost use Rattle.std.specs.Prelude.{◌≡◌, ◌≤◌, IfOk};
+ghost use Rattle.std.specs.Prelude.{◌≡◌, ◌%◌, ◌≤◌, IfOk};
 ghost use Rattle.hy_base.specs.Shape.{IsGoodShape, IsWithin};
+ghost use Rattle.hy_base.specs.Rows.{Each};
+ghost use Rattle.hy_rules.specs.Checkpoint.{base_behind};
 
 use hy_base::{
     Clash, Entry, Intention, Key, Points, Pos, Shape, Shared, Span, Spans, Value, ValueError,
@@ -157,14 +159,14 @@ fn decides<R: Threads + Sync>(
     rows: &[(Key, Pos, bool)],
 ) -> Result<bool, Fail> {
     let roller = rolled(rt, alloc, shape(group, window, 8)?, items)?;
-    Ok(tells(&roller, verdicts) && has(roller.tree(), rows) && bounds(&roller))
+    Ok(tells(&roller, verdicts) && has(roller.tree(), rows) && bounds(&roller, 0))
 }
 
-// What it tells outside the positions that it has rolled.
-fn bounds(roller: &Roller) -> bool {
+// Whether it tells verdicts past this position alone, and up to the one that it has rolled to.
+fn bounds(roller: &Roller, from: Pos) -> bool {
     let at = roller.at();
     let next = at.saturating_add(1);
-    roller.verdict(0) == Told::Past { from: 0 } && roller.verdict(next) == Told::NotYet { at }
+    roller.verdict(from) == Told::Past { from } && roller.verdict(next) == Told::NotYet { at }
 }
 
 #[test]
@@ -278,14 +280,15 @@ fn writer(tree: &Tree, key: Key) -> Pos {
     tree.get(key).map_or(0, |row| row.writer)
 }
 
-fn are_same(one: &Roller, other: &Roller) -> bool {
+// Whether two rollers have the same rows, and tell the same past a position.
+fn are_same(one: &Roller, other: &Roller, from: Pos) -> bool {
     let mut same = one.at() == other.at();
     for key in 0..6 {
         same = same && writer(one.tree(), key) == writer(other.tree(), key);
         same = same && writer(one.base_tree(), key) == writer(other.base_tree(), key);
     }
-    for pos in 0..26 {
-        same = same && one.verdict(pos) == other.verdict(pos);
+    for pos in from..25 {
+        same = same && one.verdict(pos + 1) == other.verdict(pos + 1);
     }
     same
 }
@@ -343,7 +346,7 @@ fn is_cut_well<R: Threads + Sync>(
     for threads in [1, 2, 16] {
         let both = in_parts(rt, alloc, shape, entries, place, threads, &OpenGate)?;
         let again = both.share()?;
-        if !are_same(whole, &again) {
+        if !are_same(whole, &again, 0) {
             return Ok(false);
         }
     }
@@ -431,6 +434,30 @@ fn groups_of_a_window_are_staged_beside_each_other(rt: HostRuntime) -> Result<()
     Ok(())
 }
 
+// The rows at a roller's base, the base, and the position up to which it has rolled.
+fn start_of(shape: Shape, roller: &Roller) -> Result<(Tree, Pos, Pos), Fail>
+    requires good { IsGoodShape shape }
+    requires same { roller.now.shape ≡ shape }
+    ensures whole { IfOk result (λ p. p.2 % shape.group ≡ 0) }
+    ensures within { IfOk result (λ p. p.2 ≤ shape.cap) }
+    ensures base { IfOk result (λ p. p.1 ≡ base_behind shape p.2) }
+    ensures rows { IfOk result (λ p. Each (λ r. IsWithin 1 (base_behind shape p.2) r.writer) p.0) }
+{
+    let at = roller.at();
+    let rows = roller.base_tree().share()?;
+    let base = shape.base(at / u32::from(shape.group) + 1);
+    Ok((rows, base, at))
+}
+
+// Which entries committed, from one position up to another.
+fn committed(alloc: Global, roller: &Roller, base: Pos, at: Pos) -> Result<Vec<bool>, Fail> {
+    let mut flags = Vec::new(alloc);
+    for pos in base..at {
+        flags.push(roller.verdict(pos + 1) == Told::Known(COMMIT))?;
+    }
+    Ok(flags)
+}
+
 // A roller that is resumed where another one is, from what that one has there.
 fn resumed(
     alloc: Global,
@@ -442,48 +469,54 @@ fn resumed(
     requires same { roller.now.shape ≡ shape }
     ensures { IfOk result (λ r. r.shape ≡ shape) }
 {
-    let at = roller.at();
-    let rows = roller.base_tree().share()?;
-    let base = shape.base(at / u32::from(shape.group) + 1);
-    let mut flags = Vec::new(alloc);
-    for pos in base..at {
-        flags.push(roller.committed(pos + 1))?;
+    let (rows, base, at) = start_of(shape, roller)?;
+    let flags = committed(alloc, roller, base, at)?;
+    let (start, end) = (base as usize, at as usize);
+    if entries.len() < end || end < start || flags.len() != end - start {
+        return Err(Fail::new("the log is shorter"));
     }
-    let (front, _) = entries.split_at(at as usize);
-    let (_, past) = front.split_at(base as usize);
+    let (_, past) = entries[..end].split_at(start);
     Ok(Roller::resume(alloc, shape, at, rows, past, &flags)?)
 }
 
-// Whether two rollers tell the same past a position.
-fn are_same_past(one: &Roller, other: &Roller, from: Pos) -> bool {
-    let mut same = one.at() == other.at();
-    for key in 0..6 {
-        same = same && writer(one.tree(), key) == writer(other.tree(), key);
-        same = same && writer(one.base_tree(), key) == writer(other.base_tree(), key);
-    }
-    for pos in from..25 {
-        same = same && one.verdict(pos + 1) == other.verdict(pos + 1);
-    }
-    same
+// Whether a roller that is resumed at a place of a log goes on as the whole.
+fn goes_on<R: Threads + Sync>(
+    rt: &R,
+    alloc: Global,
+    shape: Shape,
+    entries: &[Shared<Entry>],
+    whole: &Roller,
+    place: usize,
+) -> Result<bool, Fail>
+    requires { IsGoodShape shape }
+{
+    let part = in_parts(
+        rt,
+        alloc,
+        shape,
+        &entries[..place.min(entries.len())],
+        0,
+        2,
+        &OpenGate,
+    )?;
+    let again = resumed(alloc, shape, entries, &part)?;
+    let at = again.at();
+    let starts = bounds(&again, at);
+    let rest = &entries[place.min(entries.len())..];
+    let end = further(rt, alloc, shape, &again, rest, 2, &OpenGate)?;
+    Ok(starts && are_same(whole, &end, at) && end.verdict(at) == Told::Past { from: at })
 }
 
 #[test]
 fn a_resumed_roller_goes_on_as_the_whole(rt: HostRuntime) -> Result<(), Fail> {
-    let alloc = rt.alloc();
     let shape = shape(2, 2, 24)?;
-    let entries = mixed(alloc)?;
-    let whole = in_parts(&rt, alloc, shape, &entries, 24, 2, &OpenGate)?;
+    let entries = mixed(rt.alloc())?;
+    let whole = in_parts(&rt, rt.alloc(), shape, &entries, 24, 2, &OpenGate)?;
     for place in [0, 2, 4, 6, 12, 14, 22, 24] {
-        let (front, back) = entries.split_at(place);
-        let start = Roller::new(alloc, shape)?;
-        let part = further(&rt, alloc, shape, &start, front, 2, &OpenGate)?;
-        let again = resumed(alloc, shape, &entries, &part)?;
-        let at = again.at();
-        assert_eq!(rt; again.verdict(at), Told::Past { from: at });
-        assert_eq!(rt; again.verdict(at + 1), Told::NotYet { at });
-        let end = further(&rt, alloc, shape, &again, back, 2, &OpenGate)?;
-        assert!(rt; are_same_past(&whole, &end, at), "from {at}");
-        assert_eq!(rt; end.verdict(at), Told::Past { from: at });
+        assert!(rt;
+            goes_on(&rt, rt.alloc(), shape, &entries, &whole, place)?,
+            "from {place}"
+        );
     }
     Ok(())
 }

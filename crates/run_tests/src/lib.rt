@@ -13,6 +13,8 @@ mod files;
 #[cfg(test)]
 mod logs;
 #[cfg(test)]
+mod points;
+#[cfg(test)]
 mod rows;
 #[cfg(test)]
 mod runs;

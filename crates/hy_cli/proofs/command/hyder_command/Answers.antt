@@ -2,7 +2,7 @@ use Rattle.std.proofs.Common.{◌≡◌, ◌∙◌, ap, ap₂, true, codes}
 use Rattle.std.proofs.lemmas.Result.{IfOk-weaker}
 use Rattle.clap.specs.Words.{App, Shape, app_of, new_app, with_subcommand}
 use Rattle.clap.specs.Simple.{app_of_fields, on_top}
-use Rattle.hy_cli.specs.CommandLine.{run_command, sim_command}
+use Rattle.hy_cli.specs.CommandLine.{run_command}
 use Rattle.hy_cli.specs.Matches.{program, with_command}
 use Rattle.hy_cli.proofs.command.hyder_command.Goals as goal
 
@@ -27,4 +27,5 @@ returns c =
     c.in_ok-subcommand.ensures.shape (c.in_ok-run_command.ensures.1) ∙ ap₂ with_subcommand settings (shape _ _ c.in_ok-run_command.ensures.0) in
     let sim_is = c.in_ok-subcommand-2.ensures.shape (c.in_ok-sim_command.ensures.1) ∙ ap₂ with_subcommand run_is (shape _ _ c.in_ok-sim_command.ensures.0) in
     let recover_is = c.in_ok-subcommand-3.ensures.shape c.new-2.ensures.local ∙ ap₂ with_subcommand sim_is (shape _ _ c.new-2.ensures.app) in
-    IfOk-weaker c.subcommand-4.result _ _ (λ m h. h.shape c.new-3.ensures.local ∙ ap₂ with_subcommand recover_is (shape _ _ c.new-3.ensures.app)) c.subcommand-4.ensures
+    let check_is = c.in_ok-subcommand-4.ensures.shape c.new-3.ensures.local ∙ ap₂ with_subcommand recover_is (shape _ _ c.new-3.ensures.app) in
+    IfOk-weaker c.subcommand-5.result _ _ (λ m h. h.shape (c.in_ok-load_command.ensures.1) ∙ ap₂ with_subcommand check_is (shape _ _ c.in_ok-load_command.ensures.0)) c.subcommand-5.ensures

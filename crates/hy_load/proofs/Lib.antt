@@ -1,0 +1,11 @@
+pub mod Counting
+pub mod Programs
+pub mod Spots
+pub mod Turns
+pub mod Bounds
+pub mod Steady
+pub mod Begins
+pub mod Ends
+pub mod Closes
+pub mod Rounds
+pub mod Schedules
