@@ -69,8 +69,9 @@ fn run_task<D: Disk, R: Threads + Wait + Sync, G: Gate + Sync>(
     events_are_tasks(&task.pass);
 }
 
-// Runs the tasks concurrently, each on a thread of its own. They share the threads that rolls may take. A roll starts at most one
-// more than it is given, so 128 tasks that all roll at once start at most 256 besides their own, and not 17 each.
+// Runs the tasks concurrently, each on a thread of its own. They share the threads that rolls may take. A roll
+// starts at most as many as it is given, and none where that is one; so however many tasks roll at once, they start at most 16
+// besides their own.
 fn run_tasks<D: Disk + Send, R: Threads + Wait + Sync, G: Gate + Sync>(
     rt: &R,
     alloc: Global,
