@@ -1,4 +1,4 @@
-use Rattle.hy_run.specs.Answering.{devices_of}
+use Rattle.hy_run.specs.Devices.{devices_of}
 use Rattle.hyder.proofs.call.Goals as goal
 
 pub returns : goal.returns
