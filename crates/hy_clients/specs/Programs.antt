@@ -10,7 +10,7 @@ use Rattle.hy_rules.specs.Exec.{Effects, intention}
 use Rattle.hy_rules.specs.Moves.{home_server}
 use Rattle.hy_rules.specs.Runs.{Ending, ByReading, ByEntryAt, ByFullLog, setting_of, execution}
 use Rattle.hy_hub.specs.declared.mark.Mark.{Mark}
-use Rattle.hy_hub.specs.declared.mark.Mark.TheVariants.{Opened, Happened, Halted}
+use Rattle.hy_hub.specs.declared.mark.Mark.TheVariants.{Opened, Happened, Halted, Lifted, Landed}
 use Rattle.hy_hub.specs.Trace.{state_of}
 use Rattle.hy_hub.specs.Calls.{board_at}
 use Rattle.hy_clients.specs.Passing.{OpensStanding}
@@ -42,6 +42,8 @@ entry_of script client snap effects = option_to_list (option_map (λ e. Txn (int
 abbrev pub EndsProgram : Workload → ℕ → ℕ → Option Effects → Mark → Type 0
 EndsProgram script client snap effects (Opened o) = ⊥
 EndsProgram script client snap effects (Halted at) = ⊥
+EndsProgram script client snap effects (Lifted batch) = ⊥
+EndsProgram script client snap effects Landed = ⊥
 EndsProgram script client snap effects (Happened (Begin c) added) = ⊥
 EndsProgram script client snap effects (Happened (Append c) added) = (c ≡ client) × (has_written effects ≡ true) × (added ≡ entry_of script client snap effects)
 EndsProgram script client snap effects (Happened (End c) added) = (c ≡ client) × (has_written effects ≡ false)
@@ -54,6 +56,8 @@ EndsProgram script client snap effects (Happened (Stop call pattern) added) = �
 abbrev pub EndsAs : ℕ → Mark → end.End → Type 0
 EndsAs len (Opened o) told = ⊥
 EndsAs len (Halted at) told = ⊥
+EndsAs len (Lifted batch) told = ⊥
+EndsAs len Landed told = ⊥
 EndsAs len (Happened (Begin c) added) told = ⊥
 EndsAs len (Happened (Append c) added) told = told ≡ EntryAt (len + 1)
 EndsAs len (Happened (End c) added) told = told ≡ Reading
