@@ -96,7 +96,7 @@ walk script c o list front [] k s x told stood w is place leads all steady at wi
     }
 walk script c o list front (Opened o' ∷ marks) k s x told stood w is place leads all steady at within goes = absurd all
 walk script c o list front (Halted h risen ∷ marks) k s x told stood w is place leads all steady at within goes =
-    let rest = walk script c o list (front ++ Halted h ∷ []) marks (suc k) s x told stood w (is ∙ ap (λ (l : List Mark). Opened o ∷ l) (sym (append_assoc front (Halted h risen ∷ []) marks))) (omega (arith, place, length-append front (Halted h risen ∷ [])))
+    let rest = walk script c o list (front ++ Halted h risen ∷ []) marks (suc k) s x told stood w (is ∙ ap (λ (l : List Mark). Opened o ∷ l) (sym (append_assoc front (Halted h risen ∷ []) marks))) (omega (arith, place, length-append front (Halted h risen ∷ [])))
     (led_more (setting o) (opening (setting o) o.found) front (Halted h risen ∷ []) ∙ leads) all steady at within goes in
     record { fits = rest.fits; ended = rest.ended; answers = rest.answers }
 walk script c o list front (Lifted batch ∷ marks) k s x told stood w is place leads all steady at within goes =
