@@ -50,7 +50,7 @@ pad_is_quiet client all old new server answer parts pad = by answer pad.turn
     by (Err NoPlace) turn = own_none client old new (PadDoes server (Err NoPlace)) turn parts turn.done
     by (Err Even) turn = own_none client old new (PadDoes server (Err Even)) turn parts turn.done.0
     by (Err (Halting at)) turn = own_none client old new (PadDoes server (Err (Halting at))) turn parts turn.done.0
-    by (Err Failing) turn = own_other client old new (PadDoes server (Err Failing)) turn parts (Halted (len_of turn.before + 1)) turn.done.0 refl
+    by (Err Failing) turn = own_other client old new (PadDoes server (Err Failing)) turn parts (Halted (len_of turn.before + 1) turn.done.0.risen) turn.done.0.is refl
 
 pub look_is_quiet : (client all : ℕ) (old new : Known Mark) (server : ℕ) (answer : Result Look AllocError) → new.parts ≡ old.parts → OneTurn all old new (LookDoes server answer) → GoesOn client old new []
 look_is_quiet client all old new server (Ok look) parts turn = goes_none client all old new (LookDoes server (Ok look)) turn parts turn.done.0

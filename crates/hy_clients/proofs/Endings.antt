@@ -18,7 +18,7 @@ abbrev pub endings : Workload → State → List Mark → List Ended
 endings script s [] = []
 endings script s (Opened o ∷ marks) = endings script s marks
 endings script s (Happened event added ∷ marks) = ended_by s event ++ endings script (after (script_setting script) s event added) marks
-endings script s (Halted at ∷ marks) = endings script s marks
+endings script s (Halted at risen ∷ marks) = endings script s marks
 endings script s (Lifted batch ∷ marks) = endings script s marks
 endings script s (Landed ∷ marks) = endings script s marks
 

@@ -77,7 +77,7 @@ pub roller_at : (list : List Mark) (at : ℕ) (r : Roll) → IsRollerOf list at 
 roller_at [] at r is = absurd is
 roller_at (Opened o ∷ marks) at r is = is.2
 roller_at (Happened event added ∷ marks) at r is = absurd is
-roller_at (Halted at' ∷ marks) at r is = absurd is
+roller_at (Halted at' risen ∷ marks) at r is = absurd is
 roller_at (Lifted batch ∷ marks) at r is = absurd is
 roller_at (Landed ∷ marks) at r is = absurd is
 

@@ -13,7 +13,7 @@ pub stood_before : (xs ys : List Mark) → 0 < length xs → IsPrefix xs ys → 
 stood_before [] ys some p stood = absurd (omega (arith, some))
 stood_before (Opened o ∷ xs) ys some p stood = subst OpensStanding (sym p.1) stood
 stood_before (Happened event added ∷ xs) ys some p stood = subst OpensStanding (sym p.1) stood
-stood_before (Halted at ∷ xs) ys some p stood = subst OpensStanding (sym p.1) stood
+stood_before (Halted at risen ∷ xs) ys some p stood = subst OpensStanding (sym p.1) stood
 stood_before (Lifted batch ∷ xs) ys some p stood = subst OpensStanding (sym p.1) stood
 stood_before (Landed ∷ xs) ys some p stood = subst OpensStanding (sym p.1) stood
 

@@ -99,7 +99,7 @@ module _ (log : List EntryKind) (r : Roll) (good : IsGoodShape r.shape) (st : St
 
 past_end : (from len : ℕ) (mark : Mark) (e : end.End) → from ≤ len → EndsAs len mark e → IsPast from e
 past_end from len (Opened o) e low is = absurd is
-past_end from len (Halted at) e low is = absurd is
+past_end from len (Halted at risen) e low is = absurd is
 past_end from len (Lifted batch) e low is = absurd is
 past_end from len Landed e low is = absurd is
 past_end from len (Happened (Begin c) added) e low is = absurd is

@@ -86,7 +86,7 @@ roller_at : (list : List Mark) (at : ℕ) (r : Roll) → IsRollerOf list at r �
 roller_at [] at r is = absurd is
 roller_at (Opened o ∷ marks) at r is = is.2
 roller_at (Happened event added ∷ marks) at r is = absurd is
-roller_at (Halted p ∷ marks) at r is = absurd is
+roller_at (Halted p risen ∷ marks) at r is = absurd is
 roller_at (Lifted batch ∷ marks) at r is = absurd is
 roller_at (Landed ∷ marks) at r is = absurd is
 

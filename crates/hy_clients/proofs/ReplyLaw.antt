@@ -34,7 +34,7 @@ use Rattle.hy_clients.proofs.RunLaw.{client_told, moves_are, state_is, walked, f
 ends_are : (script : Workload) (s : State) (marks : List Mark) → AreMoves (script_setting script) s marks → AreFit script s marks → ended_in script s (events_of marks) ≡ endings script s marks
 ends_are script s [] all fit = refl
 ends_are script s (Opened o ∷ marks) all fit = absurd all
-ends_are script s (Halted at ∷ marks) all fit = ends_are script s marks all fit
+ends_are script s (Halted at risen ∷ marks) all fit = ends_are script s marks all fit
 ends_are script s (Lifted batch ∷ marks) all fit = ends_are script s marks all fit
 ends_are script s (Landed ∷ marks) all fit = ends_are script s marks all fit
 ends_are script s (Happened event added ∷ marks) all fit =

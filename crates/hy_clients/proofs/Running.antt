@@ -30,7 +30,7 @@ abbrev pub AreFit : Workload → State → List Mark → Type 0
 AreFit script s [] = ⊤
 AreFit script s (Opened o ∷ marks) = AreFit script s marks
 AreFit script s (Happened event added ∷ marks) = Fits script s event added × AreFit script (after (script_setting script) s event added) marks
-AreFit script s (Halted at ∷ marks) = AreFit script s marks
+AreFit script s (Halted at risen ∷ marks) = AreFit script s marks
 AreFit script s (Lifted batch ∷ marks) = AreFit script s marks
 AreFit script s (Landed ∷ marks) = AreFit script s marks
 
@@ -42,7 +42,7 @@ step_is script s event added can fits =
 pub runs : (script : Workload) (s : State) (marks : List Mark) → AreMoves (script_setting script) s marks → AreFit script s marks → run script s (events_of marks) ≡ Some (led (script_setting script) s marks)
 runs script s [] all fit = refl
 runs script s (Opened o ∷ marks) all fit = absurd all
-runs script s (Halted at ∷ marks) all fit = runs script s marks all fit
+runs script s (Halted at risen ∷ marks) all fit = runs script s marks all fit
 runs script s (Lifted batch ∷ marks) all fit = runs script s marks all fit
 runs script s (Landed ∷ marks) all fit = runs script s marks all fit
 runs script s (Happened event added ∷ marks) all fit =
@@ -52,7 +52,7 @@ runs script s (Happened event added ∷ marks) all fit =
 pub no_stops : (w : Setting) (s : State) (marks : List Mark) → AreMoves w s marks → list_any is_stop (events_of marks) ≡ false
 no_stops w s [] all = refl
 no_stops w s (Opened o ∷ marks) all = absurd all
-no_stops w s (Halted at ∷ marks) all = no_stops w s marks all
+no_stops w s (Halted at risen ∷ marks) all = no_stops w s marks all
 no_stops w s (Lifted batch ∷ marks) all = no_stops w s marks all
 no_stops w s (Landed ∷ marks) all = no_stops w s marks all
 no_stops w s (Happened event added ∷ marks) all = rw all.1 (no_stops w (after w s event added) marks all.2)
@@ -61,7 +61,7 @@ no_stops w s (Happened event added ∷ marks) all = rw all.1 (no_stops w (after 
 pub moves : (w : Setting) (s : State) (marks : List Mark) → AreMoves w s marks → LeadTo w s (events_of marks) (led w s marks)
 moves w s [] all = refl
 moves w s (Opened o ∷ marks) all = absurd all
-moves w s (Halted at ∷ marks) all = moves w s marks all
+moves w s (Halted at risen ∷ marks) all = moves w s marks all
 moves w s (Lifted batch ∷ marks) all = moves w s marks all
 moves w s (Landed ∷ marks) all = moves w s marks all
 moves w s (Happened event added ∷ marks) all = (added, all.0, moves w (after w s event added) marks all.2)
@@ -96,7 +96,7 @@ fits_here script s (Stop call pattern) added marks move n each = absurd (cc n)
 pub all_fit : (script : Workload) (s : State) (marks : List Mark) → AreMoves (script_setting script) s marks → EachFits script s marks → AreFit script s marks
 all_fit script s [] all each = tt
 all_fit script s (Opened o ∷ marks) all each = absurd all
-all_fit script s (Halted at ∷ marks) all each = all_fit script s marks all (λ c client e. each c client e)
+all_fit script s (Halted at risen ∷ marks) all each = all_fit script s marks all (λ c client e. each c client e)
 all_fit script s (Lifted batch ∷ marks) all each = all_fit script s marks all (λ c client e. each c client e)
 all_fit script s (Landed ∷ marks) all each = all_fit script s marks all (λ c client e. each c client e)
 all_fit script s (Happened event added ∷ marks) all each =

@@ -66,7 +66,7 @@ log_after w s (Stop call pattern) added calm = ([], append-nil s.log)
 pub log_led : (w : Setting) (s : State) (marks : List Mark) → AreMoves w s marks → s.armed ≡ None → IsPrefix s.log (led w s marks).log
 log_led w s [] all calm = ([], append-nil s.log)
 log_led w s (Opened o ∷ marks) all calm = absurd all
-log_led w s (Halted at ∷ marks) all calm = log_led w s marks all calm
+log_led w s (Halted at risen ∷ marks) all calm = log_led w s marks all calm
 log_led w s (Lifted batch ∷ marks) all calm = log_led w s marks all calm
 log_led w s (Landed ∷ marks) all calm = log_led w s marks all calm
 log_led w s (Happened event added ∷ marks) all calm =

@@ -34,7 +34,7 @@ abbrev pub AreFitOf : Workload → ℕ → State → List Mark → Type 0
 AreFitOf script c s [] = ⊤
 AreFitOf script c s (Opened o ∷ marks) = AreFitOf script c s marks
 AreFitOf script c s (Happened event added ∷ marks) = (is_event_of c event ≡ true → Fits script s event added) × AreFitOf script c (after (script_setting script) s event added) marks
-AreFitOf script c s (Halted at ∷ marks) = AreFitOf script c s marks
+AreFitOf script c s (Halted at risen ∷ marks) = AreFitOf script c s marks
 AreFitOf script c s (Lifted batch ∷ marks) = AreFitOf script c s marks
 AreFitOf script c s (Landed ∷ marks) = AreFitOf script c s marks
 
@@ -95,9 +95,9 @@ walk script c o list front [] k s x told stood w is place leads all steady at wi
       answers = subst (λ (l : List Answered). AreAnswered script s.log c x.next l) (sym none) tt;
     }
 walk script c o list front (Opened o' ∷ marks) k s x told stood w is place leads all steady at within goes = absurd all
-walk script c o list front (Halted h ∷ marks) k s x told stood w is place leads all steady at within goes =
-    let rest = walk script c o list (front ++ Halted h ∷ []) marks (suc k) s x told stood w (is ∙ ap (λ (l : List Mark). Opened o ∷ l) (sym (append_assoc front (Halted h ∷ []) marks))) (omega (arith, place, length-append front (Halted h ∷ [])))
-    (led_more (setting o) (opening (setting o) o.found) front (Halted h ∷ []) ∙ leads) all steady at within goes in
+walk script c o list front (Halted h risen ∷ marks) k s x told stood w is place leads all steady at within goes =
+    let rest = walk script c o list (front ++ Halted h risen ∷ []) marks (suc k) s x told stood w (is ∙ ap (λ (l : List Mark). Opened o ∷ l) (sym (append_assoc front (Halted h risen ∷ []) marks))) (omega (arith, place, length-append front (Halted h risen ∷ [])))
+    (led_more (setting o) (opening (setting o) o.found) front (Halted h risen ∷ []) ∙ leads) all steady at within goes in
     record { fits = rest.fits; ended = rest.ended; answers = rest.answers }
 walk script c o list front (Lifted batch ∷ marks) k s x told stood w is place leads all steady at within goes =
     let rest = walk script c o list (front ++ Lifted batch ∷ []) marks (suc k) s x told stood w (is ∙ ap (λ (l : List Mark). Opened o ∷ l) (sym (append_assoc front (Lifted batch ∷ []) marks))) (omega (arith, place, length-append front (Lifted batch ∷ [])))

@@ -18,7 +18,7 @@ abbrev pub opened_log : List Mark → List EntryKind
 opened_log [] = []
 opened_log (Opened o ∷ marks) = o.found
 opened_log (Happened event added ∷ marks) = []
-opened_log (Halted at ∷ marks) = []
+opened_log (Halted at risen ∷ marks) = []
 opened_log (Lifted batch ∷ marks) = []
 opened_log (Landed ∷ marks) = []
 
@@ -26,7 +26,7 @@ abbrev pub opened_faults : List Mark → ℕ
 opened_faults [] = 0
 opened_faults (Opened o ∷ marks) = o.faults
 opened_faults (Happened event added ∷ marks) = 0
-opened_faults (Halted at ∷ marks) = 0
+opened_faults (Halted at risen ∷ marks) = 0
 opened_faults (Lifted batch ∷ marks) = 0
 opened_faults (Landed ∷ marks) = 0
 
@@ -34,7 +34,7 @@ abbrev pub opened_start : List Mark → Roll
 opened_start [] = new_roll (setting_of []).shape
 opened_start (Opened o ∷ marks) = o.start
 opened_start (Happened event added ∷ marks) = new_roll (setting_of []).shape
-opened_start (Halted at ∷ marks) = new_roll (setting_of []).shape
+opened_start (Halted at risen ∷ marks) = new_roll (setting_of []).shape
 opened_start (Lifted batch ∷ marks) = new_roll (setting_of []).shape
 opened_start (Landed ∷ marks) = new_roll (setting_of []).shape
 

@@ -41,7 +41,7 @@ entry_of script client snap effects = option_to_list (option_map (λ e. Txn (int
 -- The mark ends a client's program that left this on its snapshot: a program that wrote is appended or refused, and one that only read ends.
 abbrev pub EndsProgram : Workload → ℕ → ℕ → Option Effects → Mark → Type 0
 EndsProgram script client snap effects (Opened o) = ⊥
-EndsProgram script client snap effects (Halted at) = ⊥
+EndsProgram script client snap effects (Halted at risen) = ⊥
 EndsProgram script client snap effects (Lifted batch) = ⊥
 EndsProgram script client snap effects Landed = ⊥
 EndsProgram script client snap effects (Happened (Begin c) added) = ⊥
@@ -55,7 +55,7 @@ EndsProgram script client snap effects (Happened (Stop call pattern) added) = �
 -- how a program is told to have ended, by the mark that ended it where the log had this length
 abbrev pub EndsAs : ℕ → Mark → end.End → Type 0
 EndsAs len (Opened o) told = ⊥
-EndsAs len (Halted at) told = ⊥
+EndsAs len (Halted at risen) told = ⊥
 EndsAs len (Lifted batch) told = ⊥
 EndsAs len Landed told = ⊥
 EndsAs len (Happened (Begin c) added) told = ⊥
