@@ -117,14 +117,14 @@ impl Disk for SlowDisk {
 
 // A client with a pass of its own. The first appends; the other begins while the device syncs.
 #[derive(Drop)]
-struct Side {
+struct Side<D: Disk> {
     client: u8,
-    pass: Pass<Contents<SlowDisk>>,
+    pass: Pass<Contents<D>>,
     stage: Stage,
     done: bool,
 }
 
-fn take_side<R: Wait>(rt: &R, alloc: Global, hub: &Hub<SlowDisk>, side: &mut Side)
+fn take_side<D: Disk, R: Wait>(rt: &R, alloc: Global, hub: &Hub<D>, side: &mut Side<D>)
     requires client { IsWithin 1 2 side.old.client }
     requires trial { IsTrial hub.now SHAPE side.old.pass }
     ensures trial { IsTrial hub.now SHAPE side.new.pass }
@@ -140,11 +140,11 @@ fn take_side<R: Wait>(rt: &R, alloc: Global, hub: &Hub<SlowDisk>, side: &mut Sid
     }
 }
 
-fn take_sides<R: Threads + Wait + Sync>(
+fn take_sides<D: Disk + Send, R: Threads + Wait + Sync>(
     rt: &R,
     alloc: Global,
-    hub: &Hub<SlowDisk>,
-    sides: &mut [Side],
+    hub: &Hub<D>,
+    sides: &mut [Side<D>],
 )
     requires clients { All (λ side. IsWithin 1 2 side.client) sides.old }
     requires trial { All (λ side. IsTrial hub.now SHAPE side.pass) sides.old }
@@ -155,7 +155,7 @@ fn take_sides<R: Threads + Wait + Sync>(
         rt,
         sides,
         2,
-        &|_, side: &mut Side|
+        &|_, side: &mut Side<D>|
             requires { IsWithin 1 2 side.now.client × IsTrial hub.now SHAPE side.now.pass }
             ensures { IsTrial hub.entry.now SHAPE side.exit.now.pass }
         { take_side(rt, alloc, hub, side) },
