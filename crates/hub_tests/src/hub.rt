@@ -52,7 +52,11 @@ fn log_on(alloc: Global, shape: Shape) -> Result<PageLog<MemDisk>, Fail>
 }
 
 /// A hub of two servers with a client each, which has three programs.
-pub fn hub_on<D: Disk + Drop>(alloc: Global, shape: Shape, log: PageLog<D>) -> Result<Trial<D>, Fail>
+pub fn hub_on<D: Disk + Drop>(
+    alloc: Global,
+    shape: Shape,
+    log: PageLog<D>,
+) -> Result<Trial<D>, Fail>
     requires { IsGoodShape shape × (log.stopped ≡ None) × (log.batch ≡ []) × (log.bodies ≡ []) × (log.shape ≡ shape) }
     ensures trial { IfOk result (λ r. IsTrial r.0 shape r.1) }
     ensures parts { IfOk result (λ r. (r.0.parts ≡ 129) × (r.1.parts ≡ 129)) }

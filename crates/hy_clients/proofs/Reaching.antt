@@ -220,8 +220,8 @@ pads_alone {all} old new padder pad turn alone is held =
     let setting_same : setting_of t.before ≡ setting_of old.seen = ap setting_of rest.1 ∙ (goes_on_law old.seen is).4 rest.0 in
     let begins : t.before ≡ Opened o ∷ (s.past ++ rest.0) = rest.1 ∙ ap (λ (l : List Mark). l ++ rest.0) s.begins in
     let after_own : state_of new.seen ≡ state_of (t.before ++ t.own) =
-        ap state_of (t.seen ∙ sym (append_assoc t.before t.own t.after))
-        ∙ (opened_on (t.before ++ t.own) o ((s.past ++ rest.0) ++ t.own) t.after (ap (λ (l : List Mark). l ++ t.own) begins) ∙ quiet_led (setting o) (state_of (t.before ++ t.own)) t.after turn.last) in
+    ap state_of (t.seen ∙ sym (append_assoc t.before t.own t.after))
+    ∙ (opened_on (t.before ++ t.own) o ((s.past ++ rest.0) ++ t.own) t.after (ap (λ (l : List Mark). l ++ t.own) begins) ∙ quiet_led (setting o) (state_of (t.before ++ t.own)) t.after turn.last) in
     let calm : (state_of t.before).armed ≡ None = ap (λ (x : State). x.armed) same ∙ unarmed_at old.seen is in
     let pos : 1 ≤ (setting_of t.before).shape.group = subst (λ (w : Setting). 1 ≤ w.shape.group) (sym setting_same) (group_at old.seen is) in
     subst (λ (w : Setting). len_of new.seen % w.shape.group ≡ 0) setting_same (padded padder pad o (s.past ++ rest.0) t.before t.own new.seen begins calm pos after_own t.done held)
