@@ -19,26 +19,44 @@ use std::test::Fail;
 use std::thread;
 use std::thread::Threads;
 
-type Trial = (Hub<MemDisk>, Pass<Contents<MemDisk>>);
+/// A hub, and a pass with all its parts.
+pub type Trial<D> = (Hub<D>, Pass<Contents<D>>);
 
-// A log without entries on a device, with room for a few appends.
-fn log_on(alloc: Global, shape: Shape) -> Result<PageLog<MemDisk>, Fail>
+/// A log without entries on a device.
+pub fn open_on<D: Disk + Drop>(alloc: Global, disk: D, shape: Shape) -> Result<PageLog<D>, Fail>
     requires { IsGoodShape shape }
     ensures { IfOk result (λ log. (log.stopped ≡ None) × (log.batch ≡ []) × (log.bodies ≡ []) × (log.shape ≡ shape)) }
 {
-    let mut disk = MemDisk::new(alloc, &[], &[])?;
-    disk.room(65536, 200)?;
     let Ok(log) = open_log(alloc, disk, Some(shape)) else {
         return Err("not opened")?;
     };
-    if log.len() != 0 {
-        return Err("not empty")?;
+    if log.len() != 0 || log.shape() != shape {
+        return Err("not an empty log of this shape")?;
     }
     Ok(log)
 }
 
-// A hub of two servers with a client each, which has three programs.
-fn hub_on(alloc: Global, shape: Shape, log: PageLog<MemDisk>) -> Result<Trial, Fail>
+/// A device in memory, with room for a few appends.
+pub fn memory(alloc: Global) -> Result<MemDisk, Fail> {
+    let mut disk = MemDisk::new(alloc, &[], &[])?;
+    disk.room(65536, 200)?;
+    Ok(disk)
+}
+
+// A log without entries on such a device.
+fn log_on(alloc: Global, shape: Shape) -> Result<PageLog<MemDisk>, Fail>
+    requires { IsGoodShape shape }
+    ensures { IfOk result (λ log. (log.stopped ≡ None) × (log.batch ≡ []) × (log.bodies ≡ []) × (log.shape ≡ shape)) }
+{
+    open_on(alloc, memory(alloc)?, shape)
+}
+
+/// A hub of two servers with a client each, which has three programs.
+pub fn hub_on<D: Disk + Drop>(
+    alloc: Global,
+    shape: Shape,
+    log: PageLog<D>,
+) -> Result<Trial<D>, Fail>
     requires { IsGoodShape shape × (log.stopped ≡ None) × (log.batch ≡ []) × (log.bodies ≡ []) × (log.shape ≡ shape) }
     ensures trial { IfOk result (λ r. IsTrial r.0 shape r.1) }
     ensures parts { IfOk result (λ r. (r.0.parts ≡ 129) × (r.1.parts ≡ 129)) }
@@ -60,7 +78,7 @@ fn hub_on(alloc: Global, shape: Shape, log: PageLog<MemDisk>) -> Result<Trial, F
     }
 }
 
-fn start(alloc: Global, shape: Shape) -> Result<Trial, Fail>
+fn start(alloc: Global, shape: Shape) -> Result<Trial<MemDisk>, Fail>
     requires { IsGoodShape shape }
     ensures trial { IfOk result (λ r. IsTrial r.0 shape r.1) }
     ensures parts { IfOk result (λ r. (r.0.parts ≡ 129) × (r.1.parts ≡ 129)) }
@@ -89,7 +107,8 @@ fn put(alloc: Global, client: u8, snap: Pos, byte: u8) -> Option<Entry>
     }))
 }
 
-fn begin<D: Disk, R: Wait>(
+/// The client's next program begins.
+pub fn begin<D: Disk, R: Wait>(
     rt: &R,
     shape: Shape,
     hub: &Hub<D>,
@@ -144,7 +163,8 @@ fn catch_up<D: Disk, R: Threads + Wait + Sync>(
     Some(hub.publish(rt, pass, server, rolled))
 }
 
-const SHAPE: Shape = Shape {
+/// Groups of one.
+pub const SHAPE: Shape = Shape {
     group: 1,
     window: 1,
     cap: 8,
@@ -168,8 +188,8 @@ const SMALL: Shape = Shape {
     cap: 1,
 };
 
-// The snapshot of the client's next program, once it has begun and put a byte.
-fn put_once<D: Disk, R: Wait>(
+/// The client's next program begins, and puts a byte.
+pub fn put_once<D: Disk, R: Wait>(
     rt: &R,
     alloc: Global,
     shape: Shape,
@@ -311,7 +331,7 @@ fn a_program_is_begun_and_appended(rt: HostRuntime) -> Result<(), Fail> {
     assert!(rt; bench.begin(&rt, 1).err() == Some(behind));
     assert!(rt; bench.pad(&rt, 1) == Err(PadRefusal::Even));
     let closed = bench.close();
-    assert!(rt; closed.entries.len() == 1 && closed.marks.len() == 3);
+    assert!(rt; closed.entries.len() == 1 && closed.marks.len() == 5);
     assert!(rt; closed.log.close().bytes().len() == 513);
     Ok(())
 }
@@ -418,13 +438,23 @@ fn is_one_body(alloc: Global, disk: MemDisk) -> bool {
 }
 
 #[test]
-fn a_pad_that_fails_leaves_some_fillers(rt: HostRuntime) -> Result<(), Fail> {
-    let mut bench = Bench::failing(rt.alloc(), FOURS, 9)?;
+fn a_pad_that_fails_leaves_no_filler(rt: HostRuntime) -> Result<(), Fail> {
+    let mut bench = Bench::failing(rt.alloc(), FOURS, 7)?;
     assert!(rt; bench.put(&rt, 1) == Some(Ok(1)));
     assert!(rt; bench.pad(&rt, 1) == Err(PadRefusal::Device));
-    assert!(rt; bench.pad(&rt, 1) == Err(PadRefusal::Stopped { at: 3 }));
+    assert!(rt; bench.pad(&rt, 1) == Err(PadRefusal::Stopped { at: 2 }));
     let closed = bench.close();
-    assert!(rt; closed.entries.len() == 1 && closed.log.len() == 2);
+    assert!(rt; closed.entries.len() == 1 && closed.log.len() == 1);
+    Ok(())
+}
+
+#[test]
+fn fillers_are_written_at_once(rt: HostRuntime) -> Result<(), Fail> {
+    let mut bench = Bench::failing(rt.alloc(), FOURS, 9)?;
+    assert!(rt; bench.put(&rt, 1) == Some(Ok(1)));
+    assert!(rt; bench.pad(&rt, 1) == Ok(4));
+    let closed = bench.close();
+    assert!(rt; closed.entries.len() == 4 && closed.log.stopped().is_none());
     Ok(())
 }
 

@@ -6,3 +6,5 @@
 mod history;
 #[cfg(test)]
 mod hub;
+#[cfg(test)]
+mod slow;

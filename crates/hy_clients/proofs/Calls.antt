@@ -11,7 +11,7 @@ use Rattle.hy_base.specs.Script.{Workload}
 use Rattle.hy_hist.specs.Passes.{Lock, Known}
 use Rattle.hy_rules.specs.Rolling.{Roll, rolled_upto}
 use Rattle.hy_hub.specs.declared.mark.Mark.{Mark}
-use Rattle.hy_hub.specs.declared.mark.Mark.TheVariants.{Happened, Halted}
+use Rattle.hy_hub.specs.declared.mark.Mark.TheVariants.{Happened, Halted, Lifted, Landed}
 use Rattle.hy_hub.specs.declared.mark.Begun.{Begun}
 use Rattle.hy_hub.specs.declared.mark.Look.{Look}
 use Rattle.hy_hub.specs.declared.mark.BeginRefusal.{BeginRefusal}
@@ -22,12 +22,12 @@ use Rattle.hy_hub.specs.declared.mark.PadRefusal.{PadRefusal}
 use Rattle.hy_hub.specs.declared.mark.PadRefusal.TheVariants.{Memory as NoPlace, Even, Stopped as Halting, Device as Failing}
 use Rattle.hy_hub.specs.declared.mark.PublishRefusal.{PublishRefusal}
 use Rattle.hy_hub.specs.declared.mark.PublishRefusal.TheVariants.{Memory as NoRoom, Stale}
-use Rattle.hy_hub.specs.Calls.{OneTurn, PadDoes, LookDoes, PublishDoes, BeginDoes, EndDoes, AppendDoes, lack_of, len_of, board_at}
+use Rattle.hy_hub.specs.Calls.{OneTurn, OwnTurn, PadTurn, PadDoes, LookDoes, PublishDoes, BeginDoes, EndDoes, AppendDoes, lack_of, len_of, board_at}
 use Rattle.hy_clients.specs.declared.answered.End as end
 use Rattle.hy_clients.specs.declared.answered.End.TheVariants.{EntryAt, FullLog}
 use Rattle.hy_clients.specs.Passing.{IsRunPass, GoesOn}
 use Rattle.hy_clients.specs.Serving.{Begins, Takes, EndsReading}
-use Rattle.hy_clients.proofs.Turning.{goes_none, goes_other, goes_own, before_is}
+use Rattle.hy_clients.proofs.Turning.{goes_none, goes_other, goes_own, before_is, own_none, own_other, own_own, own_before}
 use Rattle.hy_clients.proofs.Living.{begun_live}
 
 same : (client : ℕ) → (client == client) ≡ true
@@ -42,12 +42,15 @@ takes_same client entry old new mine told same takes = subst (λ (t : end.End). 
 
 -- ---- calls that are no turn of a client
 
-pub pad_is_quiet : (client all : ℕ) (old new : Known Mark) (server : ℕ) (answer : Result ℕ PadRefusal) → new.parts ≡ old.parts → OneTurn all old new (PadDoes server answer) → GoesOn client old new []
-pad_is_quiet client all old new server (Ok upto) parts turn = goes_other client all old new (PadDoes server (Ok upto)) turn parts (Happened (Pad server) (replicate (lack_of turn.before) (Filler server))) turn.done.0 refl
-pad_is_quiet client all old new server (Err NoPlace) parts turn = goes_none client all old new (PadDoes server (Err NoPlace)) turn parts turn.done
-pad_is_quiet client all old new server (Err Even) parts turn = goes_none client all old new (PadDoes server (Err Even)) turn parts turn.done.0
-pad_is_quiet client all old new server (Err (Halting at)) parts turn = goes_none client all old new (PadDoes server (Err (Halting at))) turn parts turn.done.0
-pad_is_quiet client all old new server (Err Failing) parts turn = goes_other client all old new (PadDoes server (Err Failing)) turn parts (Halted (len_of turn.before + turn.done.0 + 1)) turn.done.2 refl
+pub pad_is_quiet : (client all : ℕ) (old new : Known Mark) (server : ℕ) (answer : Result ℕ PadRefusal) → new.parts ≡ old.parts → PadTurn all old new (PadDoes server answer) → GoesOn client old new []
+pad_is_quiet client all old new server answer parts pad = by answer pad.turn
+  where
+    by : (answer : Result ℕ PadRefusal) → OwnTurn old new (PadDoes server answer) → GoesOn client old new []
+    by (Ok upto) turn = own_other client old new (PadDoes server (Ok upto)) turn parts (Happened (Pad server) (replicate (lack_of turn.before) (Filler server))) turn.done.0 refl
+    by (Err NoPlace) turn = own_none client old new (PadDoes server (Err NoPlace)) turn parts turn.done
+    by (Err Even) turn = own_none client old new (PadDoes server (Err Even)) turn parts turn.done.0
+    by (Err (Halting at)) turn = own_none client old new (PadDoes server (Err (Halting at))) turn parts turn.done.0
+    by (Err Failing) turn = own_other client old new (PadDoes server (Err Failing)) turn parts (Halted (len_of turn.before + 1) turn.done.0.risen) turn.done.0.is refl
 
 pub look_is_quiet : (client all : ℕ) (old new : Known Mark) (server : ℕ) (answer : Result Look AllocError) → new.parts ≡ old.parts → OneTurn all old new (LookDoes server answer) → GoesOn client old new []
 look_is_quiet client all old new server (Ok look) parts turn = goes_none client all old new (LookDoes server (Ok look)) turn parts turn.done.0
@@ -66,8 +69,8 @@ refused_is_quiet client all old new (Behind last board) parts turn = goes_none c
 pub not_running : (client all : ℕ) (old new : Known Mark) (who : ℕ) (phase : Phase) → new.parts ≡ old.parts → OneTurn all old new (EndDoes client (Err (NotRunning who phase))) → GoesOn client old new []
 not_running client all old new who phase parts turn = goes_none client all old new (EndDoes client (Err (NotRunning who phase))) turn parts turn.done.0
 
-pub not_begun : (client all : ℕ) (old new : Known Mark) (entry : EntryKind) (who : ℕ) (phase : Phase) → new.parts ≡ old.parts → OneTurn all old new (AppendDoes client entry (Err (NotBegun who phase))) → GoesOn client old new []
-not_begun client all old new entry who phase parts turn = goes_none client all old new (AppendDoes client entry (Err (NotBegun who phase))) turn parts turn.done.0
+pub not_begun : (client : ℕ) (old new : Known Mark) (entry : EntryKind) (who : ℕ) (phase : Phase) → new.parts ≡ old.parts → OwnTurn old new (AppendDoes client entry (Err (NotBegun who phase))) → GoesOn client old new []
+not_begun client old new entry who phase parts turn = own_none client old new (AppendDoes client entry (Err (NotBegun who phase))) turn parts turn.done.0
 
 -- ---- calls that are
 
@@ -95,20 +98,20 @@ ends_reading client all old new answer parts turn = record {
   ends = refl;
 }
 
-pub appends : (client all : ℕ) (old new : Known Mark) (entry : EntryKind) (at : ℕ) → new.parts ≡ old.parts → OneTurn all old new (AppendDoes client entry (Ok at)) → Takes client entry old new (EntryAt at)
-appends client all old new entry at parts turn =
+pub appends : (client : ℕ) (old new : Known Mark) (entry : EntryKind) (at : ℕ) → new.parts ≡ old.parts → OwnTurn old new (AppendDoes client entry (Ok at)) → Takes client entry old new (EntryAt at)
+appends client old new entry at parts turn =
     let does = AppendDoes client entry (Ok at) in
     record {
       turn = (length turn.before, Happened (Append client) (entry ∷ []));
-      next = goes_own client all old new does turn parts (Happened (Append client) (entry ∷ [])) turn.done.0 (same client);
+      next = own_own client old new does turn parts (Happened (Append client) (entry ∷ [])) turn.done.0 (same client);
       takes = inl refl;
-      ends_as = ap EntryAt (turn.done.4 ∙ ap (λ (l : List Mark). len_of l + 1) (sym (before_is client all old new does turn)));
+      ends_as = ap EntryAt (turn.done.4 ∙ ap (λ (l : List Mark). len_of l + 1) (sym (own_before client old new does turn)));
     }
 
-pub refuses : (client all : ℕ) (old new : Known Mark) (entry : EntryKind) → new.parts ≡ old.parts → OneTurn all old new (AppendDoes client entry (Err Full)) → Takes client entry old new FullLog
-refuses client all old new entry parts turn = record {
+pub refuses : (client : ℕ) (old new : Known Mark) (entry : EntryKind) → new.parts ≡ old.parts → OwnTurn old new (AppendDoes client entry (Err Full)) → Takes client entry old new FullLog
+refuses client old new entry parts turn = record {
   turn = (length turn.before, Happened (Refuse client) []);
-  next = goes_own client all old new (AppendDoes client entry (Err Full)) turn parts (Happened (Refuse client) []) turn.done.0 (same client);
+  next = own_own client old new (AppendDoes client entry (Err Full)) turn parts (Happened (Refuse client) []) turn.done.0 (same client);
   takes = inr refl;
   ends_as = refl;
 }

@@ -9,7 +9,7 @@ use Rattle.hy_base.specs.Script.{Workload}
 use Rattle.hy_rules.specs.Moves.{State, after}
 use Rattle.hy_rules.specs.Runs.{Ended, Ending, ByReading, ByEntryAt, ByFullLog, setting_of as script_setting, begun_snap, ended_by}
 use Rattle.hy_hub.specs.declared.mark.Mark.{Mark}
-use Rattle.hy_hub.specs.declared.mark.Mark.TheVariants.{Opened, Happened, Halted}
+use Rattle.hy_hub.specs.declared.mark.Mark.TheVariants.{Opened, Happened, Halted, Lifted, Landed}
 use Rattle.hy_hub.specs.Trace.{is_stop}
 use Rattle.hy_hub.specs.Turns.{is_event_of}
 
@@ -18,7 +18,9 @@ abbrev pub endings : Workload → State → List Mark → List Ended
 endings script s [] = []
 endings script s (Opened o ∷ marks) = endings script s marks
 endings script s (Happened event added ∷ marks) = ended_by s event ++ endings script (after (script_setting script) s event added) marks
-endings script s (Halted at ∷ marks) = endings script s marks
+endings script s (Halted at risen ∷ marks) = endings script s marks
+endings script s (Lifted batch ∷ marks) = endings script s marks
+endings script s (Landed ∷ marks) = endings script s marks
 
 abbrev pub is_end_of : ℕ → Ended → Bool
 is_end_of c e = e.client == c

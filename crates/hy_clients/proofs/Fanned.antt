@@ -13,7 +13,7 @@ use Rattle.hy_hist.proofs.Lists.{prefix_trans}
 use Rattle.hy_hub.specs.declared.mark.Mark.{Mark}
 use Rattle.hy_hub.specs.Trace.{setting_of}
 use Rattle.hy_hub.specs.Hub.{IsTold}
-use Rattle.hy_hub.specs.Calls.{IsIdle, OneTurn}
+use Rattle.hy_hub.specs.Calls.{IsIdle, OneTurn, OwnTurn}
 use Rattle.hy_hub.specs.Turns.{is_mark_of}
 use Rattle.hy_hub.proofs.Later.{not_empty}
 use Rattle.hy_base.proofs.NthLemmas.{nth_some}
@@ -47,6 +47,19 @@ turn_grown {all} {old} {new} {does} turn =
 -- a pass of the run that took a turn
 pub run_on : (lock : Lock) (script : Workload) {all : ℕ} {old new : Known Mark} {does : List Mark → List Mark → Type 0} → IsIdle lock new → OneTurn all old new does → IsRunPass lock script old → IsRunPass lock script new
 run_on lock script {all} {old} {new} {does} idle turn run = record {
+  idle = idle;
+  told = turn.told;
+  setting_is = turn.setting (not_empty old.seen run.told) ∙ run.setting_is;
+}
+
+-- the same for a call of several holds
+pub own_grown : {old new : Known Mark} {does : List Mark → List Mark → Type 0} → OwnTurn old new does → IsPrefix old.seen new.seen
+own_grown {old} {new} {does} turn =
+    let p = turn.grown in
+    (p.0 ++ (turn.own ++ turn.after), sym (append_assoc old.seen p.0 (turn.own ++ turn.after)) ∙ (ap (λ l. l ++ (turn.own ++ turn.after)) p.1 ∙ sym turn.seen))
+
+pub own_run_on : (lock : Lock) (script : Workload) {old new : Known Mark} {does : List Mark → List Mark → Type 0} → IsIdle lock new → OwnTurn old new does → IsRunPass lock script old → IsRunPass lock script new
+own_run_on lock script {old} {new} {does} idle turn run = record {
   idle = idle;
   told = turn.told;
   setting_is = turn.setting (not_empty old.seen run.told) ∙ run.setting_is;

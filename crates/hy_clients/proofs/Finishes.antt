@@ -88,8 +88,8 @@ module _ {D : Type 0} {tells : Bool} {content : D → Content} {faults : ℕ} {l
           sound = closed.told.sound;
           log_shape = closed.stored.shape_is ∙ shape_same;
           running = running;
-          count = closed.stored.count running ∙ ap length closed.entries_are;
-          bodies = λ t. closed.stored.whole t running ∙ ap (map spelling) closed.entries_are;
+          count = closed.stored.count ∙ ap length closed.entries_are;
+          bodies = λ t. closed.stored.bodies t ∙ ap (map spelling) closed.entries_are;
         };
         told = λ stood. record {
           leads = mine.leads stood;

@@ -12,16 +12,17 @@ use Rattle.hy_base.specs.Script.{Workload}
 use Rattle.hy_base.specs.declared.layout.Shape.{Shape}
 use Rattle.hy_base.specs.declared.record.EntryKind.{EntryKind}
 use Rattle.hy_disk.specs.Content.{Content}
-use Rattle.hy_log.specs.View.{View, HoldsAtMost}
+use Rattle.hy_log.specs.View.{View, HoldsUpTo}
 use Rattle.hy_rules.specs.EntryFormat.{spelling}
 use Rattle.hy_rules.specs.Moves.{Setting}
 use Rattle.hy_rules.specs.Rolling.{Roll, rolled_upto, Stands}
 use Rattle.hy_rules.specs.Runs.{setting_of as script_setting}
-use Rattle.hy_hub.specs.declared.mark.Opening.{Opening}
+use Rattle.hy_hub.specs.Origin.{Origin}
 use Rattle.hy_hub.specs.declared.mark.Mark.{Mark}
 use Rattle.hy_hub.specs.declared.mark.Mark.TheVariants.{Opened}
 use Rattle.hy_hub.specs.Trace.{setting_of, state_of}
-use Rattle.hy_hub.specs.Hub.{IsBoard, IsSound, IsTold, IsTorn}
+use Rattle.hy_hub.specs.Entries.{IsSound}
+use Rattle.hy_hub.specs.Hub.{IsBoard, IsTold, IsTorn}
 use Rattle.hy_hub.proofs.Growing.{sound_more}
 use Rattle.hy_hub.specs.Close.{IsClosed}
 use Rattle.hy_hub.specs.Outset.{IsOutset}
@@ -43,14 +44,6 @@ snaps_first s pos (x ∷ xs) ys all = (all.0, snaps_first s (pos + 1) xs ys all.
 lawful_first : (s : Shape) (xs ys : List EntryKind) → IsLawful s (xs ++ ys) → IsLawful s xs
 lawful_first s xs ys lawful = record { capacity = let c = lawful.capacity in omega (arith, c, length-append xs ys); snaps = snaps_first s 0 xs ys lawful.snaps }
 
-sound_first : (xs ys : List EntryKind) → AllByRecursion IsSound (xs ++ ys) → AllByRecursion IsSound xs
-sound_first [] ys all = tt
-sound_first (x ∷ xs) ys all = (all.0, sound_first xs ys all.1)
-
-sound_last : (xs : List EntryKind) (last : EntryKind) → AllByRecursion IsSound (xs ++ last ∷ []) → IsSound last
-sound_last [] last all = all.0
-sound_last (x ∷ xs) last all = sound_last xs last all.1
-
 -- the log begins with that of the opening
 pub found_first : (list : List Mark) → IsTold list → IsPrefix (opened_log list) (state_of list).log
 found_first list is =
@@ -62,7 +55,7 @@ found_first list is =
 -- ---- a log that was cut short
 
 module _ {D : Type 0} {tells : Bool} {content : D → Content} {faults : ℕ} {list : List Mark} {log : View D} {entries : List EntryKind} {rollers : List Roll} (closed : IsClosed tells content faults list log entries rollers) where
-  abbrev o : Opening
+  abbrev o : Origin
   o = closed.told.opened
 
   shape_of : (setting_of list).shape ≡ log.shape
@@ -76,7 +69,7 @@ module _ {D : Type 0} {tells : Bool} {content : D → Content} {faults : ℕ} {l
     lawful = subst (λ (s : Shape). IsLawful s (state_of list).log) (sym closed.stored.shape_is ∙ (sym shape_of ∙ same)) closed.told.lawful;
     sound = closed.told.sound;
     log_shape = sym shape_of ∙ same;
-    bodies = λ t. closed.stored.whole t (runs t) ∙ ap (map spelling) closed.entries_are;
+    bodies = λ t. closed.stored.bodies t ∙ ap (map spelling) closed.entries_are;
     torn = λ t some. absurd (some (runs t));
   }
 
@@ -84,17 +77,19 @@ module _ {D : Type 0} {tells : Bool} {content : D → Content} {faults : ℕ} {l
   torn_cut shape same torn =
       let here : log.shape ≡ shape = sym shape_of ∙ same in
       let mine = closed.entries_are in
-      let found = found_first list closed.told in
-      let more : entries ++ (torn.stored ++ torn.last ∷ []) ≡ ((state_of list).log ++ torn.stored) ++ torn.last ∷ [] = sym (append_assoc entries torn.stored (torn.last ∷ [])) ∙ ap (λ (l : List EntryKind). (l ++ torn.stored) ++ torn.last ∷ []) mine in
-      let lawful : IsLawful shape (((state_of list).log ++ torn.stored) ++ torn.last ∷ []) = subst (IsLawful shape) more (subst (λ (s : Shape). IsLawful s (entries ++ (torn.stored ++ torn.last ∷ []))) here torn.lawful) in
       record {
-        entries = (state_of list).log ++ torn.stored;
-        begins = (found.0 ++ torn.stored, sym (append_assoc (opened_log list) found.0 torn.stored) ∙ ap (λ (l : List EntryKind). l ++ torn.stored) found.1);
-        lawful = lawful_first shape ((state_of list).log ++ torn.stored) (torn.last ∷ []) lawful;
-        sound = sound_more (state_of list).log torn.stored closed.told.sound (sound_first torn.stored (torn.last ∷ []) torn.sound);
+        entries = (state_of list).log;
+        begins = found_first list closed.told;
+        lawful = subst (λ (s : Shape). IsLawful s (state_of list).log) (sym closed.stored.shape_is ∙ here) closed.told.lawful;
+        sound = closed.told.sound;
         log_shape = here;
-        bodies = λ t. torn.bodies ∙ ap (λ (l : List EntryKind). map spelling (l ++ torn.stored)) mine;
-        torn = λ t some. (torn.last, lawful, sound_last torn.stored torn.last torn.sound, λ image is. subst (λ (s : Shape). HoldsAtMost s log.bodies (spelling torn.last) image) here (torn.left image is));
+        bodies = λ t. torn.bodies ∙ ap (map spelling) mine;
+        torn = λ t some. record {
+          batch = torn.batch;
+          lawful = subst (λ (l : List EntryKind). IsLawful shape (l ++ torn.batch)) mine (subst (λ (s : Shape). IsLawful s (entries ++ torn.batch)) here torn.lawful);
+          sound = torn.sound;
+          left = λ image is. subst (λ (s : Shape). HoldsUpTo s log.bodies (map spelling torn.batch) image) here (torn.left image is);
+        };
       }
 
   by_stop : (shape : Shape) → (setting_of list).shape ≡ shape → (told : Bool) → tells ≡ told → (stop : Option ℕ) → log.stopped ≡ stop → IsCutShort tells content shape (opened_log list) log
@@ -140,7 +135,7 @@ all_whole len (r ∷ rs) ends =
     let same : rolled_upto r ≡ len = let e = left_of (rolled_upto r == len) _ ends in grind (arith, nat_tests) in
     All-cons (λ r. rolled_upto r ≡ len) r rs same (all_whole len rs (right_of (rolled_upto r == len) _ ends))
 
-pub all_stand : (o : Opening) (log : List EntryKind) (rs : List Roll) → Stands (take (rolled_upto o.start) o.found) o.start → All (IsBoard o log) rs → All (λ r. rolled_upto r ≡ length log) rs → All (λ r. Stands log r) rs
+pub all_stand : (o : Origin) (log : List EntryKind) (rs : List Roll) → Stands (take (rolled_upto o.start) o.found) o.start → All (IsBoard o log) rs → All (λ r. rolled_upto r ≡ length log) rs → All (λ r. Stands log r) rs
 all_stand o log rs stood boards whole = λ k d below.
     let r : Roll = get_or rs k d in
     let all : take (rolled_upto r) log ≡ log = ap (λ (n : ℕ). take n log) (whole k d below) ∙ take_all (length log) log (omega arith) in

@@ -17,8 +17,8 @@ use Rattle.hy_rules.specs.Validation.{live, rows}
 use Rattle.hy_pipe.specs.RollerLaws.{IsOfLonger}
 use Rattle.hy_pipe.proofs.Standing.{growth_keeps_standing}
 use Rattle.hy_hub.specs.declared.mark.Mark.{Mark}
-use Rattle.hy_hub.specs.declared.mark.Mark.TheVariants.{Opened, Happened, Halted}
-use Rattle.hy_hub.specs.declared.mark.Opening.{Opening}
+use Rattle.hy_hub.specs.declared.mark.Mark.TheVariants.{Opened, Happened, Halted, Lifted, Landed}
+use Rattle.hy_hub.specs.Origin.{Origin}
 use Rattle.hy_hub.specs.Trace.{setting, setting_of, state_of}
 use Rattle.hy_hub.specs.Hub.{IsTold, IsBoardAt}
 use Rattle.hy_hub.specs.Calls.{IsRollerOf, board_at, len_of}
@@ -55,7 +55,7 @@ stands_live log r good within stands =
     let longer : IsOfLonger (take upto log) (drop upto log) r = growth_keeps_standing (take upto log) (drop upto log) r good stands in
     ap pairs_of (longer.rows_are ∙ (λ i. rows r.shape (take-append-drop upto log i) (count i)))
 
-opened_live : (script : Workload) (o : Opening) (past : List Mark) (r : Roll) → IsGoodShape o.shape → setting o ≡ script_setting script → rolled_upto r ≤ len_of (Opened o ∷ past) → IsRollerOf (Opened o ∷ past) (rolled_upto r) r
+opened_live : (script : Workload) (o : Origin) (past : List Mark) (r : Roll) → IsGoodShape o.shape → setting o ≡ script_setting script → rolled_upto r ≤ len_of (Opened o ∷ past) → IsRollerOf (Opened o ∷ past) (rolled_upto r) r
     → AreLive script (Opened o ∷ past) (rolled_upto r) r.rolled.tree
 opened_live script o past r good same within is =
     let shape : r.shape ≡ script.shape = is.0 ∙ ap (λ (w : Setting). w.shape) same in
@@ -77,7 +77,9 @@ pub roller_at : (list : List Mark) (at : ℕ) (r : Roll) → IsRollerOf list at 
 roller_at [] at r is = absurd is
 roller_at (Opened o ∷ marks) at r is = is.2
 roller_at (Happened event added ∷ marks) at r is = absurd is
-roller_at (Halted at' ∷ marks) at r is = absurd is
+roller_at (Halted at' risen ∷ marks) at r is = absurd is
+roller_at (Lifted batch ∷ marks) at r is = absurd is
+roller_at (Landed ∷ marks) at r is = absurd is
 
 -- ---- a board
 

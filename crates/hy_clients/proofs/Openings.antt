@@ -3,7 +3,7 @@ use Rattle.std.proofs.Common.{◌≡◌, ◌<◌, List, [], ◌∷◌, ◌++◌,
 use mathlib.Core.List.{IsPrefix}
 use Rattle.hy_rules.specs.Rolling.{Roll}
 use Rattle.hy_hub.specs.declared.mark.Mark.{Mark}
-use Rattle.hy_hub.specs.declared.mark.Mark.TheVariants.{Opened, Happened, Halted}
+use Rattle.hy_hub.specs.declared.mark.Mark.TheVariants.{Opened, Happened, Halted, Lifted, Landed}
 use Rattle.hy_hub.specs.Trace.{setting_of}
 use Rattle.hy_hub.specs.Hub.{IsTold}
 use Rattle.hy_clients.specs.Passing.{opened_log, opened_start, OpensStanding, OpensInLog}
@@ -13,7 +13,9 @@ pub stood_before : (xs ys : List Mark) → 0 < length xs → IsPrefix xs ys → 
 stood_before [] ys some p stood = absurd (omega (arith, some))
 stood_before (Opened o ∷ xs) ys some p stood = subst OpensStanding (sym p.1) stood
 stood_before (Happened event added ∷ xs) ys some p stood = subst OpensStanding (sym p.1) stood
-stood_before (Halted at ∷ xs) ys some p stood = subst OpensStanding (sym p.1) stood
+stood_before (Halted at risen ∷ xs) ys some p stood = subst OpensStanding (sym p.1) stood
+stood_before (Lifted batch ∷ xs) ys some p stood = subst OpensStanding (sym p.1) stood
+stood_before (Landed ∷ xs) ys some p stood = subst OpensStanding (sym p.1) stood
 
 -- what the opening says, by a beginning of the list
 pub record IsSameOpening (first list : List Mark) : Type 0 where

@@ -24,7 +24,7 @@ use Rattle.hy_pipe.specs.declared.roller.Told.TheVariants.{Known, NotYet, Past}
 use Rattle.hy_pipe.specs.Telling.{told}
 use Rattle.hy_pipe.proofs.Standing.{standing_tells}
 use Rattle.hy_hub.specs.declared.mark.Mark.{Mark}
-use Rattle.hy_hub.specs.declared.mark.Mark.TheVariants.{Opened, Happened, Halted}
+use Rattle.hy_hub.specs.declared.mark.Mark.TheVariants.{Opened, Happened, Halted, Lifted, Landed}
 use Rattle.hy_hub.specs.Trace.{state_of}
 use Rattle.hy_hub.specs.Hub.{IsTold}
 use Rattle.hy_hub.proofs.Passing.{log_more}
@@ -99,7 +99,9 @@ module _ (log : List EntryKind) (r : Roll) (good : IsGoodShape r.shape) (st : St
 
 past_end : (from len : ℕ) (mark : Mark) (e : end.End) → from ≤ len → EndsAs len mark e → IsPast from e
 past_end from len (Opened o) e low is = absurd is
-past_end from len (Halted at) e low is = absurd is
+past_end from len (Halted at risen) e low is = absurd is
+past_end from len (Lifted batch) e low is = absurd is
+past_end from len Landed e low is = absurd is
 past_end from len (Happened (Begin c) added) e low is = absurd is
 past_end from len (Happened (Append c) added) e low is = subst (IsPast from) (sym is) (let up : from < len + 1 = omega (arith, low) in up)
 past_end from len (Happened (End c) added) e low is = subst (IsPast from) (sym is) tt

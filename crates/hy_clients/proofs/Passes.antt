@@ -17,7 +17,7 @@ use Rattle.hy_rules.specs.Moves.{Setting, home_server}
 use Rattle.hy_rules.specs.Runs.{setting_of as script_setting, program_of}
 use Rattle.hy_hub.specs.declared.mark.Mark.{Mark}
 use Rattle.hy_hub.specs.Trace.{setting_of}
-use Rattle.hy_hub.specs.Calls.{OneTurn, IsIdle, IsEntryOf, is_declared_client}
+use Rattle.hy_hub.specs.Calls.{OneTurn, OwnTurn, IsIdle, IsEntryOf, is_declared_client}
 use Rattle.hy_base.proofs.NthLemmas.{nth_map, nth_within, All-nth}
 use Rattle.hy_clients.specs.Passing.{IsRunPass}
 use Rattle.hy_clients.specs.Serving.{IsClient}
@@ -26,6 +26,14 @@ use Rattle.hy_clients.specs.Serving.{IsClient}
 pub runs_on : (lock : Lock) (script : Workload) (all : ℕ) (old new : Known Mark) (does : List Mark → List Mark → Type 0) → OneTurn all old new does → setting_of new.seen ≡ setting_of old.seen → IsIdle lock new → IsRunPass lock script old
     → IsRunPass lock script new
 runs_on lock script all old new does turn same idle run = record {
+  idle = idle;
+  told = turn.told;
+  setting_is = same ∙ run.setting_is;
+}
+
+-- so does a call of several holds
+pub own_runs_on : (lock : Lock) (script : Workload) (old new : Known Mark) (does : List Mark → List Mark → Type 0) → OwnTurn old new does → setting_of new.seen ≡ setting_of old.seen → IsIdle lock new → IsRunPass lock script old → IsRunPass lock script new
+own_runs_on lock script old new does turn same idle run = record {
   idle = idle;
   told = turn.told;
   setting_is = same ∙ run.setting_is;

@@ -1,5 +1,5 @@
 -- How a pad and a publish bring a server to the log's end.
-use Rattle.std.proofs.Common.{◌≡◌, ℕ, zero, suc, ◌+◌, ◌-◌, ◌%◌, ◌≤◌, true, List, [], ◌∷◌, ◌++◌, length, take, drop, replicate, None, refl, ap, sym, ◌∙◌, subst, arith, length-append}
+use Rattle.std.proofs.Common.{◌≡◌, ℕ, zero, suc, ◌+◌, ◌-◌, ◌%◌, ◌≤◌, true, List, [], ◌∷◌, ◌++◌, length, take, drop, replicate, None, refl, ap, sym, ◌∙◌, subst, arith, append_assoc, length-append}
 use Rattle.std.specs.Prelude.{Result, Ok, Err, All, unwrap_or, ◌==◌}
 use Rattle.std.specs.List.{list_all}
 use Rattle.std.proofs.lemmas.List.{append-nil, length-drop, length-take-le, length-replicate, take_all}
@@ -14,9 +14,9 @@ use Rattle.hy_base.specs.Script.{Workload}
 use Rattle.hy_hist.specs.Passes.{Lock, Known}
 use Rattle.hy_rules.specs.Moves.{Setting, State, after, board_of}
 use Rattle.hy_rules.specs.Rolling.{Roll, rolled_upto, roll_on}
-use Rattle.hy_hub.specs.declared.mark.Opening.{Opening}
+use Rattle.hy_hub.specs.Origin.{Origin}
 use Rattle.hy_hub.specs.declared.mark.Mark.{Mark}
-use Rattle.hy_hub.specs.declared.mark.Mark.TheVariants.{Opened, Happened, Halted}
+use Rattle.hy_hub.specs.declared.mark.Mark.TheVariants.{Opened, Happened, Halted, Lifted, Landed}
 use Rattle.hy_hub.specs.declared.mark.Look.{Look}
 use Rattle.hy_hub.specs.declared.mark.PadRefusal.{PadRefusal}
 use Rattle.hy_hub.specs.declared.mark.PadRefusal.TheVariants.{Memory as NoPlace, Even, Stopped, Device}
@@ -24,13 +24,14 @@ use Rattle.hy_hub.specs.declared.mark.PublishRefusal.{PublishRefusal}
 use Rattle.hy_hub.specs.declared.mark.PublishRefusal.TheVariants.{Memory as NoRoom, Stale}
 use Rattle.hy_hub.specs.Trace.{setting, opening_state, setting_of, state_of}
 use Rattle.hy_hub.specs.Hub.{IsBoardAt, IsTold}
-use Rattle.hy_hub.specs.Calls.{OneTurn, PadDoes, LookDoes, PublishDoes, IsRollerOf, len_of, lack_of}
+use Rattle.hy_hub.specs.Calls.{OneTurn, PadTurn, PadDoes, LookDoes, PublishDoes, IsRollerOf, len_of, lack_of, events_of}
 use Rattle.hy_hub.specs.Laws.{IsPadded, IsPublished}
 use Rattle.hy_base.proofs.NthLemmas.{left_of, right_of, both}
 use Rattle.hy_hub.proofs.Told.{told_setting}
 use Rattle.hy_hub.proofs.Rolls.{rolled_on, filled_whole}
 use Rattle.hy_hub.proofs.Padding.{missing_is}
-use Rattle.hy_hub.proofs.Later.{goes_on_law, unarmed_led}
+use Rattle.hy_hub.proofs.Events.{quiet_led}
+use Rattle.hy_hub.proofs.Later.{goes_on_law, unarmed_led, opened_on}
 use Rattle.hy_clients.specs.Passing.{IsRunPass}
 
 -- ---- what every list of a hub has
@@ -47,7 +48,7 @@ group_at list is = subst (λ (s : Shape). 1 ≤ s.group) (sym (shape_at list is)
 pub board_count : (list : List Mark) → IsTold list → length (state_of list).boards ≡ (setting_of list).servers
 board_count list is = is.servers ∙ sym (ap (λ (w : Setting). w.servers) (told_setting is.opened list _ _ is.told))
 
-low_board : (o : Opening) (len : ℕ) (bs : List ℕ) (c : ℕ) → All (IsBoardAt o len) bs → unwrap_or (nth bs c) 0 ≤ len
+low_board : (o : Origin) (len : ℕ) (bs : List ℕ) (c : ℕ) → All (IsBoardAt o len) bs → unwrap_or (nth bs c) 0 ≤ len
 low_board o len [] zero all = omega arith
 low_board o len [] (suc c) all = omega arith
 low_board o len (b ∷ bs) zero all = omega arith
@@ -63,22 +64,21 @@ nothing_more list added now is none = is ∙ (ap (λ l. list ++ l) none ∙ appe
 -- ---- pads
 
 -- the last group is whole after a pad
-pub padded : (padder : ℕ) (pad : Result ℕ PadRefusal) (list added now : List Mark) → IsTold list → now ≡ list ++ added → PadDoes padder pad list added → IsPadded pad → len_of now % (setting_of list).shape.group ≡ 0
-padded padder (Ok upto) list added now is e does held =
+padded : (padder : ℕ) (pad : Result ℕ PadRefusal) (o : Origin) (past list added now : List Mark) → list ≡ Opened o ∷ past → (state_of list).armed ≡ None → 1 ≤ (setting_of list).shape.group → state_of now ≡ state_of (list ++ added) → PadDoes padder pad list added → IsPadded pad
+    → len_of now % (setting_of list).shape.group ≡ 0
+padded padder (Ok upto) o past list added now begins calm pos e does held =
     let n = lack_of list in
     let g = (setting_of list).shape.group in
     let fillers : List EntryKind = replicate n (Filler padder) in
-    let ends : state_of now ≡ after (setting_of list) (state_of list) (Pad padder) fillers = ap state_of (e ∙ ap (λ l. list ++ l) does.0) ∙ (goes_on_law list is).0 (Pad padder) fillers in
-    let calm = unarmed_at list is in
+    let ends : state_of now ≡ after (setting o) (state_of list) (Pad padder) fillers = e ∙ (ap (λ l. state_of (list ++ l)) does.0 ∙ opened_on list o past (Happened (Pad padder) fillers ∷ []) begins) in
     let log : (state_of now).log ≡ (state_of list).log ++ fillers = ap (λ (s : State). s.log) ends ∙ rw calm refl in
-    let pos = group_at list is in
     let lack = missing_is (setting_of list) (len_of list) pos does.1 in
     let size : len_of now ≡ len_of list + (g - len_of list % g) = omega (arith, ap length log, length-append (state_of list).log fillers, length-replicate n (Filler padder), lack) in
     ap (λ m. m % g) size ∙ filled_whole g (len_of list) pos
-padded padder (Err NoPlace) list added now is e does held = absurd held
-padded padder (Err Even) list added now is e does held = ap (λ (l : List Mark). len_of l % (setting_of list).shape.group) (nothing_more list added now e does.0) ∙ does.1
-padded padder (Err (Stopped at)) list added now is e does held = absurd held
-padded padder (Err Device) list added now is e does held = absurd held
+padded padder (Err NoPlace) o past list added now begins calm pos e does held = absurd held
+padded padder (Err Even) o past list added now begins calm pos e does held = ap (λ (s : State). length s.log % (setting_of list).shape.group) (e ∙ ap state_of (nothing_more list added (list ++ added) refl does.0)) ∙ does.1
+padded padder (Err (Stopped at)) o past list added now begins calm pos e does held = absurd held
+padded padder (Err Device) o past list added now begins calm pos e does held = absurd held
 
 -- ---- looks
 
@@ -86,7 +86,9 @@ roller_at : (list : List Mark) (at : ℕ) (r : Roll) → IsRollerOf list at r �
 roller_at [] at r is = absurd is
 roller_at (Opened o ∷ marks) at r is = is.2
 roller_at (Happened event added ∷ marks) at r is = absurd is
-roller_at (Halted p ∷ marks) at r is = absurd is
+roller_at (Halted p risen ∷ marks) at r is = absurd is
+roller_at (Lifted batch ∷ marks) at r is = absurd is
+roller_at (Landed ∷ marks) at r is = absurd is
 
 -- a look gives all entries past the board, where the last group is whole
 pub looked : (server : ℕ) (look : Look) (list : List Mark) → IsTold list → len_of list % (setting_of list).shape.group ≡ 0 → LookDoes server (Ok look) list [] → board_of (state_of list) server + length look.entries ≡ len_of list
@@ -203,6 +205,23 @@ publishes {all} first second third server look r publish is even alone same look
 pub even_at : (lock : Lock) (script : Workload) (pass : Known Mark) → IsRunPass lock script pass → len_of pass.seen % script.shape.group ≡ 0 → len_of pass.seen % (setting_of pass.seen).shape.group ≡ 0
 even_at lock script pass run even = ap (λ (w : Setting). len_of pass.seen % w.shape.group) run.setting_is ∙ even
 
--- a pad by a pass that has all parts
-pub pads_alone : {all : ℕ} (old new : Known Mark) (padder : ℕ) (pad : Result ℕ PadRefusal) → OneTurn all old new (PadDoes padder pad) → old.parts ≡ all → IsTold old.seen → IsPadded pad → len_of new.seen % (setting_of old.seen).shape.group ≡ 0
-pads_alone {all} old new padder pad turn alone is held = padded padder pad old.seen turn.added new.seen is (alone_adds turn alone) (alone_does turn alone) held
+-- marks that are no events lead on to the same state
+still : (list quiet : List Mark) → IsTold list → events_of quiet ≡ [] → state_of (list ++ quiet) ≡ state_of list
+still list quiet is none = let t = is.told in opened_on list is.opened t.past quiet t.begins ∙ quiet_led (setting is.opened) (state_of list) quiet none
+
+-- A pad by a pass that has all parts. Around its own item stand marks that are no events.
+pub pads_alone : {all : ℕ} (old new : Known Mark) (padder : ℕ) (pad : Result ℕ PadRefusal) → PadTurn all old new (PadDoes padder pad) → old.parts ≡ all → IsTold old.seen → IsPadded pad → len_of new.seen % (setting_of old.seen).shape.group ≡ 0
+pads_alone {all} old new padder pad turn alone is held =
+    let t = turn.turn in
+    let rest = turn.alone alone in
+    let o = is.opened in
+    let s = is.told in
+    let same : state_of t.before ≡ state_of old.seen = ap state_of rest.1 ∙ still old.seen rest.0 is rest.2 in
+    let setting_same : setting_of t.before ≡ setting_of old.seen = ap setting_of rest.1 ∙ (goes_on_law old.seen is).4 rest.0 in
+    let begins : t.before ≡ Opened o ∷ (s.past ++ rest.0) = rest.1 ∙ ap (λ (l : List Mark). l ++ rest.0) s.begins in
+    let after_own : state_of new.seen ≡ state_of (t.before ++ t.own) =
+    ap state_of (t.seen ∙ sym (append_assoc t.before t.own t.after))
+    ∙ (opened_on (t.before ++ t.own) o ((s.past ++ rest.0) ++ t.own) t.after (ap (λ (l : List Mark). l ++ t.own) begins) ∙ quiet_led (setting o) (state_of (t.before ++ t.own)) t.after turn.last) in
+    let calm : (state_of t.before).armed ≡ None = ap (λ (x : State). x.armed) same ∙ unarmed_at old.seen is in
+    let pos : 1 ≤ (setting_of t.before).shape.group = subst (λ (w : Setting). 1 ≤ w.shape.group) (sym setting_same) (group_at old.seen is) in
+    subst (λ (w : Setting). len_of new.seen % w.shape.group ≡ 0) setting_same (padded padder pad o (s.past ++ rest.0) t.before t.own new.seen begins calm pos after_own t.done held)

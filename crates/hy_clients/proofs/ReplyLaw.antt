@@ -15,7 +15,7 @@ use Rattle.hy_rules.specs.Moves.{State, after, opening}
 use Rattle.hy_rules.specs.Runs.{Ended, setting_of as script_setting, ended_by, ended_in, outcome_of, answers_to, reply_of, replies_to}
 use Rattle.hy_rules.specs.Validation.{verdicts}
 use Rattle.hy_hub.specs.declared.mark.Mark.{Mark}
-use Rattle.hy_hub.specs.declared.mark.Mark.TheVariants.{Opened, Happened, Halted}
+use Rattle.hy_hub.specs.declared.mark.Mark.TheVariants.{Opened, Happened, Halted, Lifted, Landed}
 use Rattle.hy_hub.specs.Trace.{AreMoves, state_of}
 use Rattle.hy_hub.specs.Calls.{events_of}
 use Rattle.hy_clients.specs.declared.answered.Answered.{Answered}
@@ -34,7 +34,9 @@ use Rattle.hy_clients.proofs.RunLaw.{client_told, moves_are, state_is, walked, f
 ends_are : (script : Workload) (s : State) (marks : List Mark) → AreMoves (script_setting script) s marks → AreFit script s marks → ended_in script s (events_of marks) ≡ endings script s marks
 ends_are script s [] all fit = refl
 ends_are script s (Opened o ∷ marks) all fit = absurd all
-ends_are script s (Halted at ∷ marks) all fit = ends_are script s marks all fit
+ends_are script s (Halted at risen ∷ marks) all fit = ends_are script s marks all fit
+ends_are script s (Lifted batch ∷ marks) all fit = ends_are script s marks all fit
+ends_are script s (Landed ∷ marks) all fit = ends_are script s marks all fit
 ends_are script s (Happened event added ∷ marks) all fit =
     ap (λ (o : Option State). ended_by s event ++ option_map_or (λ next. ended_in script next (events_of marks)) o []) (step_is script s event added all.0.may_happen fit.0)
     ∙ ap (λ (l : List Ended). ended_by s event ++ l) (ends_are script (after (script_setting script) s event added) marks all.2 fit.1)

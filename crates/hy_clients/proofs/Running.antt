@@ -16,7 +16,7 @@ use Rattle.hy_base.specs.Script.{Workload}
 use Rattle.hy_rules.specs.Moves.{Setting, State, Moves, after, enabled, is_begun, client_passes}
 use Rattle.hy_rules.specs.Runs.{setting_of as script_setting, suits, added as entries, step, run, is_done}
 use Rattle.hy_hub.specs.declared.mark.Mark.{Mark}
-use Rattle.hy_hub.specs.declared.mark.Mark.TheVariants.{Opened, Happened, Halted}
+use Rattle.hy_hub.specs.declared.mark.Mark.TheVariants.{Opened, Happened, Halted, Lifted, Landed}
 use Rattle.hy_hub.specs.Trace.{is_stop, led, AreMoves}
 use Rattle.hy_hub.specs.Calls.{events_of}
 use Rattle.hy_base.proofs.NthLemmas.{left_of, both}
@@ -30,7 +30,9 @@ abbrev pub AreFit : Workload → State → List Mark → Type 0
 AreFit script s [] = ⊤
 AreFit script s (Opened o ∷ marks) = AreFit script s marks
 AreFit script s (Happened event added ∷ marks) = Fits script s event added × AreFit script (after (script_setting script) s event added) marks
-AreFit script s (Halted at ∷ marks) = AreFit script s marks
+AreFit script s (Halted at risen ∷ marks) = AreFit script s marks
+AreFit script s (Lifted batch ∷ marks) = AreFit script s marks
+AreFit script s (Landed ∷ marks) = AreFit script s marks
 
 pub step_is : (script : Workload) (s : State) (event : Event) (added : List EntryKind) → enabled (script_setting script) s event ≡ true → Fits script s event added → step script s event ≡ Some (after (script_setting script) s event added)
 step_is script s event added can fits =
@@ -40,7 +42,9 @@ step_is script s event added can fits =
 pub runs : (script : Workload) (s : State) (marks : List Mark) → AreMoves (script_setting script) s marks → AreFit script s marks → run script s (events_of marks) ≡ Some (led (script_setting script) s marks)
 runs script s [] all fit = refl
 runs script s (Opened o ∷ marks) all fit = absurd all
-runs script s (Halted at ∷ marks) all fit = runs script s marks all fit
+runs script s (Halted at risen ∷ marks) all fit = runs script s marks all fit
+runs script s (Lifted batch ∷ marks) all fit = runs script s marks all fit
+runs script s (Landed ∷ marks) all fit = runs script s marks all fit
 runs script s (Happened event added ∷ marks) all fit =
     ap (option_and_then (λ next. run script next (events_of marks))) (step_is script s event added all.0.may_happen fit.0)
     ∙ runs script (after (script_setting script) s event added) marks all.2 fit.1
@@ -48,14 +52,18 @@ runs script s (Happened event added ∷ marks) all fit =
 pub no_stops : (w : Setting) (s : State) (marks : List Mark) → AreMoves w s marks → list_any is_stop (events_of marks) ≡ false
 no_stops w s [] all = refl
 no_stops w s (Opened o ∷ marks) all = absurd all
-no_stops w s (Halted at ∷ marks) all = no_stops w s marks all
+no_stops w s (Halted at risen ∷ marks) all = no_stops w s marks all
+no_stops w s (Lifted batch ∷ marks) all = no_stops w s marks all
+no_stops w s (Landed ∷ marks) all = no_stops w s marks all
 no_stops w s (Happened event added ∷ marks) all = rw all.1 (no_stops w (after w s event added) marks all.2)
 
 -- each event is a move
 pub moves : (w : Setting) (s : State) (marks : List Mark) → AreMoves w s marks → LeadTo w s (events_of marks) (led w s marks)
 moves w s [] all = refl
 moves w s (Opened o ∷ marks) all = absurd all
-moves w s (Halted at ∷ marks) all = moves w s marks all
+moves w s (Halted at risen ∷ marks) all = moves w s marks all
+moves w s (Lifted batch ∷ marks) all = moves w s marks all
+moves w s (Landed ∷ marks) all = moves w s marks all
 moves w s (Happened event added ∷ marks) all = (added, all.0, moves w (after w s event added) marks all.2)
 
 -- ---- each event is of a client that was served, or of none
@@ -88,7 +96,9 @@ fits_here script s (Stop call pattern) added marks move n each = absurd (cc n)
 pub all_fit : (script : Workload) (s : State) (marks : List Mark) → AreMoves (script_setting script) s marks → EachFits script s marks → AreFit script s marks
 all_fit script s [] all each = tt
 all_fit script s (Opened o ∷ marks) all each = absurd all
-all_fit script s (Halted at ∷ marks) all each = all_fit script s marks all (λ c client e. each c client e)
+all_fit script s (Halted at risen ∷ marks) all each = all_fit script s marks all (λ c client e. each c client e)
+all_fit script s (Lifted batch ∷ marks) all each = all_fit script s marks all (λ c client e. each c client e)
+all_fit script s (Landed ∷ marks) all each = all_fit script s marks all (λ c client e. each c client e)
 all_fit script s (Happened event added ∷ marks) all each =
     (fits_here script s event added marks all.0 all.1 each, all_fit script (after (script_setting script) s event added) marks all.2 (λ c client e. (each c client e).1))
 

@@ -11,7 +11,7 @@ use Rattle.hy_base.specs.Lists.{nth, change_nth}
 use Rattle.hy_base.specs.Shape.{whole_groups}
 use Rattle.hy_rules.specs.Moves.{Setting, State, after, enabled, board_of, opening, is_declared, ends_whole_group}
 use Rattle.hy_hub.specs.declared.mark.Mark.{Mark}
-use Rattle.hy_hub.specs.declared.mark.Mark.TheVariants.{Opened, Happened, Halted}
+use Rattle.hy_hub.specs.declared.mark.Mark.TheVariants.{Opened, Happened, Halted, Lifted, Landed}
 use Rattle.hy_hub.specs.Trace.{is_stop, led, AreMoves}
 use Rattle.hy_base.proofs.NthLemmas.{right_of}
 use Rattle.hy_hub.proofs.Turns.{unarmed}
@@ -66,7 +66,9 @@ log_after w s (Stop call pattern) added calm = ([], append-nil s.log)
 pub log_led : (w : Setting) (s : State) (marks : List Mark) → AreMoves w s marks → s.armed ≡ None → IsPrefix s.log (led w s marks).log
 log_led w s [] all calm = ([], append-nil s.log)
 log_led w s (Opened o ∷ marks) all calm = absurd all
-log_led w s (Halted at ∷ marks) all calm = log_led w s marks all calm
+log_led w s (Halted at risen ∷ marks) all calm = log_led w s marks all calm
+log_led w s (Lifted batch ∷ marks) all calm = log_led w s marks all calm
+log_led w s (Landed ∷ marks) all calm = log_led w s marks all calm
 log_led w s (Happened event added ∷ marks) all calm =
     let one = log_after w s event added calm in
     let rest = log_led w (after w s event added) marks all.2 (unarmed w s event added calm all.1) in

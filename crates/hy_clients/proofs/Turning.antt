@@ -7,7 +7,7 @@ use Rattle.std.proofs.Math.Seq.{take-append_seam, take-append-add}
 use mathlib.Core.List.{IsPrefix}
 use Rattle.hy_hist.specs.Passes.{Known, made}
 use Rattle.hy_hub.specs.declared.mark.Mark.{Mark}
-use Rattle.hy_hub.specs.Calls.{OneTurn, placed}
+use Rattle.hy_hub.specs.Calls.{OneTurn, OwnTurn, placed}
 use Rattle.hy_hub.specs.Turns.{is_mark_of}
 use Rattle.hy_clients.specs.Passing.{own_turns, GoesOn, IsNextTurn}
 
@@ -52,35 +52,74 @@ next_after client a b c turn g next = record {
   within = next.within;
 }
 
+-- what stands around a pass's own item, or none
+module _ (client : ℕ) (old new : Known Mark) (before own after : List Mark) (begins : IsPrefix old.seen before) (seen : new.seen ≡ before ++ (own ++ after)) (makes : made new ≡ made old ++ placed (length before) own) where
+  around_grows : IsPrefix old.seen new.seen
+  around_grows = (begins.0 ++ (own ++ after), sym (append_assoc old.seen begins.0 (own ++ after)) ∙ (ap (λ l. l ++ (own ++ after)) begins.1 ∙ sym seen))
+
+  around_before : take (length before) new.seen ≡ before
+  around_before = ap (take (length before)) seen ∙ take-append_seam before (own ++ after)
+
+  around_goes : new.parts ≡ old.parts → (turns : List (ℕ × Mark)) → filter (λ t. is_mark_of client t.1) (placed (length before) own) ≡ turns → GoesOn client old new turns
+  around_goes parts turns e = record {
+    grown = around_grows;
+    parts = parts;
+    own = ap (filter (λ (t : ℕ × Mark). is_mark_of client t.1)) makes ∙ (filter-append (λ (t : ℕ × Mark). is_mark_of client t.1) (made old) (placed (length before) own) ∙ ap (λ l. own_turns client old ++ l) e);
+  }
+
+  around_none : new.parts ≡ old.parts → own ≡ [] → GoesOn client old new []
+  around_none parts e = around_goes parts [] (ap (λ l. filter (λ (t : ℕ × Mark). is_mark_of client t.1) (placed (length before) l)) e)
+
+  around_other : new.parts ≡ old.parts → (mark : Mark) → own ≡ mark ∷ [] → is_mark_of client mark ≡ false → GoesOn client old new []
+  around_other parts mark e other =
+      around_goes parts [] (ap (λ l. filter (λ (t : ℕ × Mark). is_mark_of client t.1) (placed (length before) l)) e ∙ ap (λ b. if b then (length before, mark) ∷ [] else []) other)
+
+  around_own : new.parts ≡ old.parts → (mark : Mark) → own ≡ mark ∷ [] → is_mark_of client mark ≡ true → IsNextTurn client old new (length before, mark)
+  around_own parts mark e mine = record {
+    goes = around_goes parts ((length before, mark) ∷ []) (ap (λ l. filter (λ (t : ℕ × Mark). is_mark_of client t.1) (placed (length before) l)) e ∙ ap (λ b. if b then (length before, mark) ∷ [] else []) mine);
+    behind = prefix_length old.seen before begins;
+    within = omega (arith, ap length seen, length-append before (own ++ after), length-append own after, ap length e);
+  }
+
+-- a turn, which adds its own item at the list's end
 module _ (client all : ℕ) (old new : Known Mark) (does : List Mark → List Mark → Type 0) (turn : OneTurn all old new does) where
+  shown : new.seen ≡ turn.before ++ (turn.added ++ [])
+  shown = turn.seen ∙ ap (λ l. turn.before ++ l) (sym (append-nil turn.added))
+
   pub grows : IsPrefix old.seen new.seen
-  grows = (turn.grown.0 ++ turn.added, sym (append_assoc old.seen turn.grown.0 turn.added) ∙ (ap (λ l. l ++ turn.added) turn.grown.1 ∙ sym turn.seen))
+  grows = around_grows client old new turn.before turn.added [] turn.grown shown turn.makes
 
   pub before_is : take (length turn.before) new.seen ≡ turn.before
-  before_is = ap (take (length turn.before)) turn.seen ∙ take-append_seam turn.before turn.added
-
-  goes_by : new.parts ≡ old.parts → (own : List (ℕ × Mark)) → filter (λ t. is_mark_of client t.1) (placed (length turn.before) turn.added) ≡ own → GoesOn client old new own
-  goes_by parts own e = record {
-    grown = grows;
-    parts = parts;
-    own =
-        ap (filter (λ (t : ℕ × Mark). is_mark_of client t.1)) turn.makes
-        ∙ (filter-append (λ (t : ℕ × Mark). is_mark_of client t.1) (made old) (placed (length turn.before) turn.added) ∙ ap (λ l. own_turns client old ++ l) e);
-  }
+  before_is = around_before client old new turn.before turn.added [] turn.grown shown turn.makes
 
   -- it added nothing
   pub goes_none : new.parts ≡ old.parts → turn.added ≡ [] → GoesOn client old new []
-  goes_none parts e = goes_by parts [] (ap (λ l. filter (λ (t : ℕ × Mark). is_mark_of client t.1) (placed (length turn.before) l)) e)
+  goes_none = around_none client old new turn.before turn.added [] turn.grown shown turn.makes
 
   -- it added what isn't the client's
   pub goes_other : new.parts ≡ old.parts → (mark : Mark) → turn.added ≡ mark ∷ [] → is_mark_of client mark ≡ false → GoesOn client old new []
-  goes_other parts mark e other =
-      goes_by parts [] (ap (λ l. filter (λ (t : ℕ × Mark). is_mark_of client t.1) (placed (length turn.before) l)) e ∙ ap (λ b. if b then (length turn.before, mark) ∷ [] else []) other)
+  goes_other = around_other client old new turn.before turn.added [] turn.grown shown turn.makes
 
   -- it added a mark of the client
   pub goes_own : new.parts ≡ old.parts → (mark : Mark) → turn.added ≡ mark ∷ [] → is_mark_of client mark ≡ true → IsNextTurn client old new (length turn.before, mark)
-  goes_own parts mark e own = record {
-    goes = goes_by parts ((length turn.before, mark) ∷ []) (ap (λ l. filter (λ (t : ℕ × Mark). is_mark_of client t.1) (placed (length turn.before) l)) e ∙ ap (λ b. if b then (length turn.before, mark) ∷ [] else []) own);
-    behind = prefix_length old.seen turn.before turn.grown;
-    within = omega (arith, ap length turn.seen, length-append turn.before turn.added, ap length e);
-  }
+  goes_own = around_own client old new turn.before turn.added [] turn.grown shown turn.makes
+
+-- a call of several holds, around whose own item others may stand
+module _ (client : ℕ) (old new : Known Mark) (does : List Mark → List Mark → Type 0) (turn : OwnTurn old new does) where
+  pub own_grows : IsPrefix old.seen new.seen
+  own_grows = around_grows client old new turn.before turn.own turn.after turn.grown turn.seen turn.makes
+
+  pub own_before : take (length turn.before) new.seen ≡ turn.before
+  own_before = around_before client old new turn.before turn.own turn.after turn.grown turn.seen turn.makes
+
+  -- nothing is its own
+  pub own_none : new.parts ≡ old.parts → turn.own ≡ [] → GoesOn client old new []
+  own_none = around_none client old new turn.before turn.own turn.after turn.grown turn.seen turn.makes
+
+  -- its own isn't the client's
+  pub own_other : new.parts ≡ old.parts → (mark : Mark) → turn.own ≡ mark ∷ [] → is_mark_of client mark ≡ false → GoesOn client old new []
+  own_other = around_other client old new turn.before turn.own turn.after turn.grown turn.seen turn.makes
+
+  -- its own is a mark of the client
+  pub own_own : new.parts ≡ old.parts → (mark : Mark) → turn.own ≡ mark ∷ [] → is_mark_of client mark ≡ true → IsNextTurn client old new (length turn.before, mark)
+  own_own = around_own client old new turn.before turn.own turn.after turn.grown turn.seen turn.makes

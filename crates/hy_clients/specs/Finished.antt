@@ -9,12 +9,12 @@ use Rattle.hy_base.specs.declared.workload.Event.{Event}
 use Rattle.hy_base.specs.declared.layout.Shape.{Shape}
 use Rattle.hy_base.specs.Script.{Workload}
 use Rattle.hy_disk.specs.Content.{Content, Image}
-use Rattle.hy_log.specs.View.{View, HoldsAtMost}
+use Rattle.hy_log.specs.View.{View, HoldsUpTo}
 use Rattle.hy_rules.specs.EntryFormat.{spelling}
 use Rattle.hy_rules.specs.Moves.{Setting, State, Moves, after}
 use Rattle.hy_rules.specs.Rolling.{Roll, rolled_upto, Stands}
 use Rattle.hy_rules.specs.Runs.{setting_of, opening_of, run, is_finished, ended_in, results_at}
-use Rattle.hy_hub.specs.Hub.{IsSound}
+use Rattle.hy_hub.specs.Entries.{IsSound}
 use Rattle.hy_hub.specs.Trace.{is_stop}
 
 -- Each event may happen in its turn, and adds entries that it may add; so they lead from a state to another. What the appended entries hold is left open.
@@ -55,8 +55,16 @@ pub record IsFinished {D : Type 0} (tells : Bool) (script : Workload) (found : L
   pub log_is : IsLogOf tells script.shape end.log log
   pub told : Stands (take (rolled_upto start) found) start → IsToldRun script found events end replies boards
 
+-- A batch of entries at which a device failed. They are lawful behind the log's, and each is read again from its spelling.
+-- A crash leaves the log's bodies, or these and those of the whole batch.
+pub record IsTornBehind {D : Type 0} (content : D → Content) (shape : Shape) (entries : List EntryKind) (log : View D) : Type 0 where
+  pub batch : List EntryKind
+  pub lawful : IsLawful shape (entries ++ batch)
+  pub sound : AllByRecursion IsSound batch
+  pub left : (image : List ℕ) → Image (content log.disk) image → HoldsUpTo shape log.bodies (map spelling batch) image
+
 -- What is left of a log where the clients could not go on: the entries found and some of theirs, all lawful, and each read again from its spelling.
--- A crash leaves these, or, where the device failed, these and the one whose append failed, which is lawful behind them.
+-- A crash leaves these, or, where the device failed, these and the batch at which it failed.
 pub record IsCutShort {D : Type 0} (tells : Bool) (content : D → Content) (shape : Shape) (found : List EntryKind) (log : View D) : Type 0 where
   pub entries : List EntryKind
   pub begins : IsPrefix found entries
@@ -64,4 +72,4 @@ pub record IsCutShort {D : Type 0} (tells : Bool) (content : D → Content) (sha
   pub sound : AllByRecursion IsSound entries
   pub log_shape : log.shape ≡ shape
   pub bodies : IsTrue tells → log.bodies ≡ map spelling entries
-  pub torn : IsTrue tells → log.stopped ≢ None → (last : EntryKind) × IsLawful shape (entries ++ last ∷ []) × IsSound last × ((image : List ℕ) → Image (content log.disk) image → HoldsAtMost shape log.bodies (spelling last) image)
+  pub torn : IsTrue tells → log.stopped ≢ None → IsTornBehind content shape entries log

@@ -7,7 +7,7 @@ use Rattle.hy_base.specs.Script.{Workload}
 use Rattle.hy_rules.specs.Rolling.{Roll, rolled_upto, new_roll, Stands}
 use Rattle.hy_rules.specs.Runs.{setting_of as script_setting}
 use Rattle.hy_hub.specs.declared.mark.Mark.{Mark}
-use Rattle.hy_hub.specs.declared.mark.Mark.TheVariants.{Opened, Happened, Halted}
+use Rattle.hy_hub.specs.declared.mark.Mark.TheVariants.{Opened, Happened, Halted, Lifted, Landed}
 use Rattle.hy_hub.specs.Trace.{setting_of}
 use Rattle.hy_hub.specs.Hub.{IsTold}
 use Rattle.hy_hub.specs.Calls.{IsIdle}
@@ -18,19 +18,25 @@ abbrev pub opened_log : List Mark → List EntryKind
 opened_log [] = []
 opened_log (Opened o ∷ marks) = o.found
 opened_log (Happened event added ∷ marks) = []
-opened_log (Halted at ∷ marks) = []
+opened_log (Halted at risen ∷ marks) = []
+opened_log (Lifted batch ∷ marks) = []
+opened_log (Landed ∷ marks) = []
 
 abbrev pub opened_faults : List Mark → ℕ
 opened_faults [] = 0
 opened_faults (Opened o ∷ marks) = o.faults
 opened_faults (Happened event added ∷ marks) = 0
-opened_faults (Halted at ∷ marks) = 0
+opened_faults (Halted at risen ∷ marks) = 0
+opened_faults (Lifted batch ∷ marks) = 0
+opened_faults (Landed ∷ marks) = 0
 
 abbrev pub opened_start : List Mark → Roll
 opened_start [] = new_roll (setting_of []).shape
 opened_start (Opened o ∷ marks) = o.start
 opened_start (Happened event added ∷ marks) = new_roll (setting_of []).shape
-opened_start (Halted at ∷ marks) = new_roll (setting_of []).shape
+opened_start (Halted at risen ∷ marks) = new_roll (setting_of []).shape
+opened_start (Lifted batch ∷ marks) = new_roll (setting_of []).shape
+opened_start (Landed ∷ marks) = new_roll (setting_of []).shape
 
 -- the roller of the opening stands for the entries that it has rolled
 abbrev pub OpensStanding : List Mark → Type 0

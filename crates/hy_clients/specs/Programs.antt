@@ -10,7 +10,7 @@ use Rattle.hy_rules.specs.Exec.{Effects, intention}
 use Rattle.hy_rules.specs.Moves.{home_server}
 use Rattle.hy_rules.specs.Runs.{Ending, ByReading, ByEntryAt, ByFullLog, setting_of, execution}
 use Rattle.hy_hub.specs.declared.mark.Mark.{Mark}
-use Rattle.hy_hub.specs.declared.mark.Mark.TheVariants.{Opened, Happened, Halted}
+use Rattle.hy_hub.specs.declared.mark.Mark.TheVariants.{Opened, Happened, Halted, Lifted, Landed}
 use Rattle.hy_hub.specs.Trace.{state_of}
 use Rattle.hy_hub.specs.Calls.{board_at}
 use Rattle.hy_clients.specs.Passing.{OpensStanding}
@@ -41,7 +41,9 @@ entry_of script client snap effects = option_to_list (option_map (λ e. Txn (int
 -- The mark ends a client's program that left this on its snapshot: a program that wrote is appended or refused, and one that only read ends.
 abbrev pub EndsProgram : Workload → ℕ → ℕ → Option Effects → Mark → Type 0
 EndsProgram script client snap effects (Opened o) = ⊥
-EndsProgram script client snap effects (Halted at) = ⊥
+EndsProgram script client snap effects (Halted at risen) = ⊥
+EndsProgram script client snap effects (Lifted batch) = ⊥
+EndsProgram script client snap effects Landed = ⊥
 EndsProgram script client snap effects (Happened (Begin c) added) = ⊥
 EndsProgram script client snap effects (Happened (Append c) added) = (c ≡ client) × (has_written effects ≡ true) × (added ≡ entry_of script client snap effects)
 EndsProgram script client snap effects (Happened (End c) added) = (c ≡ client) × (has_written effects ≡ false)
@@ -53,7 +55,9 @@ EndsProgram script client snap effects (Happened (Stop call pattern) added) = �
 -- how a program is told to have ended, by the mark that ended it where the log had this length
 abbrev pub EndsAs : ℕ → Mark → end.End → Type 0
 EndsAs len (Opened o) told = ⊥
-EndsAs len (Halted at) told = ⊥
+EndsAs len (Halted at risen) told = ⊥
+EndsAs len (Lifted batch) told = ⊥
+EndsAs len Landed told = ⊥
 EndsAs len (Happened (Begin c) added) told = ⊥
 EndsAs len (Happened (Append c) added) told = told ≡ EntryAt (len + 1)
 EndsAs len (Happened (End c) added) told = told ≡ Reading

@@ -6,7 +6,7 @@ use Rattle.hy_rules.specs.Moves.{Setting}
 use Rattle.hy_hub.specs.Calls.{len_of}
 use Rattle.hy_hub.specs.Laws.{IsPadded}
 use Rattle.hy_hub.specs.declared.mark.PadRefusal.{PadRefusal}
-use Rattle.hy_clients.proofs.Fanned.{run_on, turn_grown}
+use Rattle.hy_clients.proofs.Fanned.{own_run_on, own_grown}
 use Rattle.hy_clients.proofs.Reaching.{pads_alone, one_more_ends}
 use Rattle.hy_clients.proofs.closing.bring_to_end.Goals.{in-Ok, in-Err-Even}
 use Rattle.hy_clients.proofs.closing.bring_to_end.Goals as goal
@@ -27,7 +27,7 @@ loop-at-init g c =
       | in-Err-Even w ↦ subst IsPadded (sym w.in-Err-Even.is) (subst (λ (e : PadRefusal). IsPadded (Err e)) (sym w.in-Err-Even.field-0-is) tt)
     ] in
     let even : len_of new.seen % c.args.script.now.shape.group ≡ 0 = ap (λ (w : Setting). len_of new.seen % w.shape.group) (sym run.setting_is) ∙ pads_alone old new 1 c.pad.result turn c.requires.all run.told held in
-    (run_on c.args.hub.now c.args.script.now c.pad.ensures.kept.0 turn run, c.pad.ensures.kept.1, turn_grown turn, even, refl)
+    (own_run_on c.args.hub.now c.args.script.now c.pad.ensures.kept.0 turn.turn run, c.pad.ensures.kept.1, own_grown turn.turn, even, refl)
 
 pub loop-at-preserved : goal.loop-at-preserved
 loop-at-preserved g c =
