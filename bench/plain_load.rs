@@ -6,14 +6,14 @@
 use std::collections::{BTreeMap, VecDeque};
 use std::rc::Rc;
 
-const GROUP: usize = 4;
-const WINDOW: usize = 4;
+pub const GROUP: usize = 4;
+pub const WINDOW: usize = 4;
 const SERVERS: usize = 4;
 const CLIENTS: usize = 8;
 
-type Key = u64;
-type Pos = usize;
-type Value = Rc<[u8]>;
+pub type Key = u64;
+pub type Pos = usize;
+pub type Value = Rc<[u8]>;
 
 // PCG XSH RR 64/32
 struct Words {
@@ -91,11 +91,11 @@ enum Answer {
     Pairs(Vec<(Key, Value)>),
 }
 
-struct Entry {
-    snap: Pos,
-    points: Vec<Key>,
-    spans: Vec<(Key, Key)>,
-    writes: Vec<(Key, Value)>,
+pub struct Entry {
+    pub snap: Pos,
+    pub points: Vec<Key>,
+    pub spans: Vec<(Key, Key)>,
+    pub writes: Vec<(Key, Value)>,
 }
 
 impl Entry {
@@ -267,10 +267,15 @@ struct Client {
     begun: Option<(Pos, bool, Effects, Vec<Answer>)>,
 }
 
-fn main() {
-    let words: Vec<String> = std::env::args().collect();
-    let seed: u64 = words[1].parse().unwrap();
-    let size: usize = words[2].parse().unwrap();
+// What a run leaves: the log, a server at its end, and how many programs only read.
+pub struct Ended {
+    pub log: Vec<Option<Entry>>,
+    verdicts: Vec<Verdict>,
+    rows: usize,
+    reads: usize,
+}
+
+pub fn run(seed: u64, size: usize) -> Ended {
     let mut clients: Vec<Client> = (0..CLIENTS).map(|_| Client::default()).collect();
     let mut drawn = Words::new(seed, 1);
     for number in 0..size {
@@ -323,9 +328,28 @@ fn main() {
     for server in &mut servers {
         server.publish(&log, log.len());
     }
-    let first = &servers[0];
+    let first = servers.swap_remove(0);
     assert!(servers.iter().all(|s| s.verdicts == first.verdicts));
-    let count = |verdict| first.verdicts.iter().filter(|v| **v == verdict).count();
+    Ended {
+        log,
+        verdicts: first.verdicts,
+        rows: first.rows.len(),
+        reads,
+    }
+}
+
+#[allow(dead_code)]
+fn main() {
+    let words: Vec<String> = std::env::args().collect();
+    let seed: u64 = words[1].parse().unwrap();
+    let size: usize = words[2].parse().unwrap();
+    let Ended {
+        log,
+        verdicts,
+        rows,
+        reads,
+    } = run(seed, size);
+    let count = |verdict| verdicts.iter().filter(|v| **v == verdict).count();
     println!("load seed {seed} size {size}");
     println!("entries {} fillers {}", log.len(), count(Verdict::Filler));
     println!(
@@ -335,5 +359,5 @@ fn main() {
         count(Verdict::Mate),
         count(Verdict::Final)
     );
-    println!("state {} rows {}", log.len(), first.rows.len());
+    println!("state {} rows {}", log.len(), rows);
 }

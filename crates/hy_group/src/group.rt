@@ -1,11 +1,10 @@
-//! The members of a group that joined, as their marks and a tree of their writes.
+//! The members of a group that joined, as their marks.
 ghost use Rattle.std.specs.Prelude.{◌≡◌, [], IfOk, OnErr};
 ghost use Rattle.hy_group.specs.Joining.{IsJoin, IsMemberJoin, IsMateOf};
 
 use hy_base::Clash;
 use hy_mark::Marks;
-use hy_meld::{apply, check};
-use hy_tree::Tree;
+use hy_meld::check_writes;
 use std::alloc::{AllocError, Global};
 use std::marker::Model;
 
@@ -13,19 +12,14 @@ use std::marker::Model;
 #[derive(Drop)]
 pub struct Group {
     marks: Marks,
-    // the writes of the marks once more, to be looked up by key
-    written: Tree,
 }
 
 impl Model for Group {
-    ghost use Rattle.std.specs.Prelude.{◌≡◌};
     ghost use Rattle.hy_base.specs.Marks.{MarkSet};
 
     ghost Value = { MarkSet };
 
     ghost view = { λ g. g.marks };
-
-    ghost invariant = { λ g. g.written ≡ g.marks.writes };
 }
 
 /// What becomes of a member.
@@ -44,7 +38,6 @@ impl Group {
     {
         Group {
             marks: Marks::new(alloc),
-            written: Tree::empty(),
         }
     }
 
@@ -64,17 +57,16 @@ impl Group {
 
     /// A member joins, unless the members that joined write a key past what its marks know of it. `AllocError` where
     /// memory is wanting. The group is as it was where the member did not join.
-    pub fn join(&mut self, alloc: Global, marks: &Marks) -> Result<Join, AllocError>
-        ensures decided { IfOk result (λ join. IsJoin self.old marks.now join self.new) }
-        ensures member { IfOk result (λ join. IsMemberJoin self.old marks.now join self.new) }
-        ensures mate { IfOk result (IsMateOf self.old marks.now) }
+    pub fn join(&mut self, alloc: Global, marks: Marks) -> Result<Join, AllocError>
+        ensures decided { IfOk result (λ join. IsJoin self.old marks join self.new) }
+        ensures member { IfOk result (λ join. IsMemberJoin self.old marks join self.new) }
+        ensures mate { IfOk result (IsMateOf self.old marks) }
         ensures err { OnErr result (self.new ≡ self.old) }
     {
-        if let Some(clash) = check(&self.written, marks) {
+        if let Some(clash) = check_writes(&self.marks, &marks) {
             return Ok(Join::Mate(clash));
         }
         let both = self.marks.merge(alloc, marks)?;
-        self.written = apply(alloc, &self.written, marks)?;
         self.marks = both;
         Ok(Join::Joined)
     }

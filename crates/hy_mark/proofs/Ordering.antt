@@ -186,6 +186,23 @@ joins_all {wl} {wr} {ms} {l} {r} j e f = (
 pub pairs_last : (xs : List Mark) (m : Mark) → ArePairs xs → IsBlock m.block → AllByRecursion (λ x. IsTrue (span_before x.block m.block)) xs → ArePairs (xs ++ m ∷ [])
 pairs_last xs m p b a = record { ordered = ordered_last xs m p.ordered a; each = all_append (λ x. IsBlock x.block) xs (m ∷ []) p.each (b, tt) }
 
+-- ---- one list behind another
+
+ordered_followed : (xs ys : List Mark) → AreOrdered xs → AreOrdered ys → AllByRecursion (λ m. AllByRecursion (IsBefore m) ys) xs → AreOrdered (xs ++ ys)
+ordered_followed [] ys a b c = b
+ordered_followed (x ∷ xs) ys a b c = (all_append (IsBefore x) xs ys a.0 c.0, ordered_followed xs ys a.1 b c.1)
+
+pub pairs_followed : (xs ys : List Mark) → ArePairs xs → ArePairs ys → AllByRecursion (λ m. AllByRecursion (IsBefore m) ys) xs → ArePairs (xs ++ ys)
+pairs_followed xs ys a b c = record { ordered = ordered_followed xs ys a.ordered b.ordered c; each = all_append (λ m. IsBlock m.block) xs ys a.each b.each }
+
+-- nothing has to stand before no marks
+pub before_none : (xs ys : List Mark) → AreBlocks xs → ys ≡ [] → AllByRecursion (λ m. AllByRecursion (IsBefore m) ys) xs
+before_none xs ys a e = rw e (all_map (λ m. IsBlock m.block) (λ m. AllByRecursion (IsBefore m) []) (λ m h. tt) xs a)
+
+-- what stands before the first of a list in order stands before all of it
+pub before_each : (xs : List Mark) (y : Mark) (ys right : List Mark) → right ≡ y ∷ ys → AreOrdered right → AllByRecursion (λ m. IsTrue (span_before m.block y.block)) xs → AllByRecursion (λ m. AllByRecursion (IsBefore m) right) xs
+before_each xs y ys right e o a = all_map (λ m. IsTrue (span_before m.block y.block)) (λ m. AllByRecursion (IsBefore m) right) (λ m t. before_all m y ys right e o t) xs a
+
 pub pairs_raised : (base : ℕ) (xs : List Mark) → ArePairs xs → ArePairs (map (raise base) xs)
 pairs_raised base xs p = record { ordered = ordered xs p.ordered; each = each xs p.each }
   where

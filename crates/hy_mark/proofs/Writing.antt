@@ -17,6 +17,11 @@ applied_first x rs (w ∷ ws) a =
     let e : put row_before w (x ∷ rs) ≡ x ∷ put row_before w rs = rw (le-ltb w.key x.key (omega (arith, a.0)), lt-ltb x.key w.key a.0) refl in
     rw e (applied_first x (put row_before w rs) ws a.1)
 
+-- rows in order, put in place among none
+pub newest_same : (ws : List Row) → IsOrdered ws → applied [] ws ≡ ws
+newest_same [] o = refl
+newest_same (w ∷ ws) o = applied_first w [] ws o.0 ∙ ap (λ (rs : List Row). w ∷ rs) (newest_same ws o.1)
+
 put_before : (y : Row) (xs : List Row) → Each (λ x. y.key < x.key) xs → put row_before y xs ≡ y ∷ xs
 put_before y [] a = refl
 put_before y (x ∷ xs) a = rw (lt-ltb y.key x.key a.0) refl

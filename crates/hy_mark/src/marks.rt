@@ -96,7 +96,7 @@ fn of_spans(alloc: Global, spans: &[Span], dependency: Pos) -> Result<Pairs, All
     let mut pairs = Pairs::new(alloc);
     for &span in spans {
         let more = of_span(alloc, span, dependency)?;
-        pairs = pairs.joined(alloc, &more)?;
+        pairs = pairs.into_joined(alloc, more)?;
     }
     Ok(pairs)
 }
@@ -134,18 +134,20 @@ impl Marks {
         let points = of_points(alloc, intention.points.as_slice(), snap)?;
         let spans = of_spans(alloc, intention.spans.as_slice(), snap)?;
         let written = of_writes(alloc, writes, snap)?;
-        let pairs = points.joined(alloc, &spans.joined(alloc, &written)?)?;
+        let pairs = points.into_joined(alloc, spans.into_joined(alloc, written)?)?;
         let writes = rows_of(alloc, writes, pos)?;
         Ok(Marks { pairs, writes })
     }
 
     /// The marks with each dependency raised to the base, where it is below.
-    pub fn raise(&self, alloc: Global, base: Pos) -> Result<Marks, AllocError>
-        ensures { IfOk result (IsRaised base self.now) }
+    pub fn raise(self, alloc: Global, base: Pos) -> Result<Marks, AllocError>
+        ensures { IfOk result (IsRaised base self) }
     {
         let pairs = self.pairs.raised(alloc, base)?;
-        let writes = self.writes.joined(alloc, &Written::new(alloc))?;
-        Ok(Marks { pairs, writes })
+        Ok(Marks {
+            pairs,
+            writes: self.writes,
+        })
     }
 
     /// The pairs, in the order of their blocks, and the writes, in the order of their keys.
@@ -159,11 +161,11 @@ impl Marks {
 
     /// The marks and the writes of both. Of a key that both mark the lesser dependency holds, and of a key that both write
     /// the other's write stands.
-    pub fn merge(&self, alloc: Global, other: &Marks) -> Result<Marks, AllocError>
-        ensures { IfOk result (IsMerged self.now other.now) }
+    pub fn merge(&self, alloc: Global, other: Marks) -> Result<Marks, AllocError>
+        ensures { IfOk result (IsMerged self.now other) }
     {
-        let pairs = self.pairs.joined(alloc, &other.pairs)?;
-        let writes = self.writes.joined(alloc, &other.writes)?;
+        let pairs = self.pairs.with(alloc, other.pairs)?;
+        let writes = self.writes.with(alloc, other.writes)?;
         Ok(Marks { pairs, writes })
     }
 }

@@ -107,7 +107,8 @@ impl Pairs {
     pub fn joined(&self, alloc: Global, other: &Pairs) -> Result<Pairs, AllocError>
         ensures { IfOk result (λ p. (key : ℕ) → dep p key ≡ lesser (dep self.now key) (dep other.now key)) }
     {
-        let mut marks = Items::new(alloc);
+        let room = self.marks.len().saturating_add(other.marks.len());
+        let mut marks = Items::from_vec(Vec::with_capacity(alloc, room)?);
         let mut left = self.as_slice();
         let mut right = other.as_slice();
         while let Some(first) = first_of(left, right) {
@@ -116,6 +117,49 @@ impl Pairs {
             right = first.right;
         }
         Ok(Pairs { marks })
+    }
+
+    /// The same, where the others are taken over.
+    pub fn with(&self, alloc: Global, other: Pairs) -> Result<Pairs, AllocError>
+        ensures { IfOk result (λ p. (key : ℕ) → dep p key ≡ lesser (dep self.now key) (dep other key)) }
+    {
+        if self.marks.len() == 0 {
+            return Ok(other);
+        }
+        self.joined(alloc, &other)
+    }
+
+    // These marks, and then others behind them.
+    fn followed(self, other: Pairs) -> Result<Pairs, AllocError>
+        requires { AllByRecursion (λ m. AllByRecursion (IsBefore m) other) self }
+        ensures { IfOk result (λ p. (key : ℕ) → dep p key ≡ lesser (dep self key) (dep other key)) }
+    {
+        let mut marks = self.marks.into_vec();
+        let mut behind = other.marks.into_vec();
+        marks.append(&mut behind)?;
+        Ok(Pairs {
+            marks: Items::from_vec(marks),
+        })
+    }
+
+    // Whether each mark stands before all of the others.
+    fn stands_before(&self, other: &Pairs) -> bool
+        ensures { IsTrue result → AllByRecursion (λ m. AllByRecursion (IsBefore m) other.now) self.now }
+    {
+        match other.as_slice().split_first() {
+            None => true,
+            Some((first, _)) => self.ends_before(first.block),
+        }
+    }
+
+    /// The marks of both, which are taken over. Nothing is copied where one has none, or all of one stand before the other's.
+    pub fn into_joined(self, alloc: Global, other: Pairs) -> Result<Pairs, AllocError>
+        ensures { IfOk result (λ p. (key : ℕ) → dep p key ≡ lesser (dep self key) (dep other key)) }
+    {
+        if self.stands_before(&other) {
+            return self.followed(other);
+        }
+        self.with(alloc, other)
     }
 
     // Whether each mark stands before this block.
@@ -148,7 +192,7 @@ impl Pairs {
     pub fn raised(&self, alloc: Global, base: Pos) -> Result<Pairs, AllocError>
         ensures { IfOk result (λ p. (key : ℕ) → dep p key ≡ option_map (λ d. max d base) (dep self.now key)) }
     {
-        let mut marks = Items::new(alloc);
+        let mut marks = Items::from_vec(Vec::with_capacity(alloc, self.marks.len())?);
         for &Mark { block, dependency } in self.as_slice() {
             let dependency = dependency.max(base);
             marks.push(Mark { block, dependency })?;

@@ -98,7 +98,8 @@ impl Written {
     pub fn joined(&self, alloc: Global, other: &Written) -> Result<Written, AllocError>
         ensures { IfOk result (λ w. w ≡ applied self.now other.now) }
     {
-        let mut rows = Items::new(alloc);
+        let room = self.rows.len().saturating_add(other.rows.len());
+        let mut rows = Items::from_vec(Vec::with_capacity(alloc, room)?);
         let mut left = self.as_slice();
         let mut right = other.as_slice();
         while let Some(first) = first_of(left, right) {
@@ -107,6 +108,17 @@ impl Written {
             right = first.right;
         }
         Ok(Written { rows })
+    }
+
+    /// The same, where the others are taken over.
+    pub fn with(&self, alloc: Global, other: Written) -> Result<Written, AllocError>
+        ensures { IfOk result (λ w. w ≡ applied self.now other) }
+    {
+        if self.rows.len() == 0 {
+            let _ordered = other.as_slice();
+            return Ok(other);
+        }
+        self.joined(alloc, &other)
     }
 
     // Whether each row has a lesser key.

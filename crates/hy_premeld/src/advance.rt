@@ -17,18 +17,18 @@ pub enum Premelded {
     Clash(Clash),
 }
 
-/// Checks marks against the tree at the base, and raises them to the base where they pass. The tree and the marks stay as
-/// they are. `AllocError` where memory is wanting.
+/// Checks marks against the tree at the base, and raises them to the base where they pass. The tree stays as it is.
+/// `AllocError` where memory is wanting.
 pub fn premeld(
     alloc: Global,
     base_tree: &Tree,
-    marks: &Marks,
+    marks: Marks,
     base: Pos,
 ) -> Result<Premelded, AllocError>
-    ensures checked { IfOk result (IsPremelded base_tree.now marks.now base) }
-    ensures judged { IfOk result (IsPremeldOf base_tree.now marks.now base) }
+    ensures checked { IfOk result (IsPremelded base_tree.now marks base) }
+    ensures judged { IfOk result (IsPremeldOf base_tree.now marks base) }
 {
-    match check(base_tree, marks) {
+    match check(base_tree, &marks) {
         Some(clash) => Ok(Premelded::Clash(clash)),
         None => Ok(Premelded::Raised(marks.raise(alloc, base)?)),
     }
