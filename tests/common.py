@@ -70,7 +70,7 @@ class Caller:
         os.chdir(self.folder)
         self.source = None
 
-    def start(self, words, source, log, points):
+    def start(self, words, source, log, points, env=None):
         put_file("hyder.log", log)
         put_file("hyder.points", points)
         if source != self.source:
@@ -78,11 +78,11 @@ class Caller:
             self.source = source
         files = [(0, "in", os.O_RDONLY), (1, "out", os.O_WRONLY | os.O_CREAT | os.O_TRUNC), (2, "err", os.O_WRONLY | os.O_CREAT | os.O_TRUNC)]
         actions = [(os.POSIX_SPAWN_OPEN, number, name, how, 0o600) for number, name, how in files]
-        return os.posix_spawn(self.program, ["hyder", *words], {}, file_actions=actions)
+        return os.posix_spawn(self.program, ["hyder", *words], env or {}, file_actions=actions)
 
-    def call(self, words, source=b"", log=None, points=None):
+    def call(self, words, source=b"", log=None, points=None, env=None):
         """The answer of one call on these files. Something on standard error, or an end by a signal, is status -1."""
-        _, ended = os.waitpid(self.start(words, source, log, points), 0)
+        _, ended = os.waitpid(self.start(words, source, log, points, env), 0)
         status = os.waitstatus_to_exitcode(ended)
         if os.path.getsize("err"):
             status = -1
