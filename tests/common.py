@@ -119,9 +119,9 @@ def close_worker(_):
     time.sleep(0.1)
 
 
-def each(asked, work, tasks, chunk=1):
-    """What `work` gives for each task, by workers with a caller each. It gives a count and a list of what is wrong."""
-    count, wrong = 0, []
+def each(asked, work, tasks, chunk=1, count=0):
+    """What `work` gives for each task, by workers with a caller each. It gives a count, to be added up, and a list of what is wrong."""
+    wrong = []
     with multiprocessing.Pool(asked.jobs, start_worker, (program_of(asked),)) as pool:
         for done, differing in pool.imap_unordered(work, tasks, chunk):
             count += done
