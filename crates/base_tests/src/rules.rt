@@ -1,6 +1,6 @@
 //! The plain fold, on logs of a few sums.
 ghost use Rattle.std.specs.Prelude.{ℕ, ◌≡◌, ◌⊎◌, IfOk};
-ghost use Rattle.hy_base.specs.Shape.{IsWithin};
+ghost use Rattle.hy_base.specs.Limits.{IsClientNumber};
 ghost use Rattle.hy_base.specs.Log.{HasLawfulSnap};
 
 use hy_base::{Clash, Entry, Intention, Items, Shape, Value, Verdict, Write};
@@ -10,7 +10,7 @@ use std::test::Fail;
 
 // What adding 1 to key 7 leaves, on the empty snapshot.
 fn sum(alloc: Global, client: u8) -> Result<Entry, Fail>
-    requires { IsWithin 1 128 client }
+    requires { IsClientNumber client }
     ensures { IfOk result (λ e. (pos : ℕ) → HasLawfulSnap (record { group = 1; window = 1; cap = 8 }) pos e) }
 {
     let Ok(value) = Value::new(vec![in alloc; b'1']?) else {

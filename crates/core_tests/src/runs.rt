@@ -1,8 +1,8 @@
 //! Runs of a script to their end, with a helper that tells what they come to.
 use hy_base::{Clash, Event, Outcome, Pos, Replies, Verdict};
 use hy_core::{Core, RunError, StepError};
-use hy_input::{Input, read_input};
 use hy_pipe::OpenGate;
+use hy_script::{Input, read_input};
 use hy_text::write_trace;
 use std::alloc::{AllocError, Global};
 use std::test::Fail;

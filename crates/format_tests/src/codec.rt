@@ -1,9 +1,9 @@
 //! Entries as bytes, both ways, and damaged fields.
-ghost use Rattle.hy_base.specs.Shape.{IsWithin};
+ghost use Rattle.hy_base.specs.Limits.{IsServerNumber};
 
 use hy_base::{Entry, Shape};
 use hy_codec::{DecodeError, decode, decode_at, encode};
-use hy_rules::{BadEntry, Damage};
+use hy_formats::{BadEntry, Damage};
 use std::alloc::Global;
 use std::test::Fail;
 
@@ -57,7 +57,7 @@ fn respelled(alloc: Global, bytes: &[u8]) -> Result<Vec<u8>, Fail> {
 
 // The spelling of a filler.
 fn filler(alloc: Global, server: u8) -> Result<Vec<u8>, Fail>
-    requires { IsWithin 1 8 server }
+    requires { IsServerNumber server }
 {
     Ok(encode(alloc, &Entry::filler(server))?)
 }

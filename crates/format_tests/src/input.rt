@@ -1,7 +1,6 @@
 //! Inputs that are read and refused.
 use hy_base::Event;
-use hy_input::read_input;
-use hy_script::{ReadError, Refused, Why};
+use hy_script::{ReadError, Refused, Why, read_input};
 use std::test::Fail;
 
 #[test]

@@ -2,10 +2,10 @@
 ghost use Rattle.std.specs.Prelude.{◌≤◌};
 
 use hy_base::Shape;
+use hy_formats::Damage;
 use hy_pages::{
     are_zeros, fill_page, header_of, is_unborn, pages_of, read_gate, read_header, read_len,
 };
-use hy_rules::Damage;
 use std::alloc::Global;
 use std::process::Abort;
 use std::test::Fail;

@@ -3,7 +3,7 @@ ghost use Rattle.std.specs.Prelude.{◌≡◌, [], ◌+◌, ◌<◌, ◌^◌, le
 ghost use mathlib.Core.List.{IsPrefix};
 ghost use Rattle.hub_tests.specs.Desk.{is_away, moves, CountsAt, IsReady};
 ghost use Rattle.hy_hist.specs.Passes.{made, Makes};
-ghost use Rattle.hy_hist.specs.Turns.{Adds, Turns};
+ghost use Rattle.hy_hist.specs.Turns.{AddsItem, Turns};
 
 use hy_hist::{Content, HistLock, Pass};
 use std::alloc::Global;
@@ -52,7 +52,7 @@ impl Content for Desk {
 impl Desk {
     /// Counts a number, and answers its place.
     fn add(&mut self, number: u64) -> Option<u64>
-        ensures added { Adds self.old self.new result (CountsAt number result) }
+        ensures added { AddsItem self.old self.new result (CountsAt number result) }
         ensures place { IfSome result (λ k. slice_get self.new k ≡ Some (Some number)) }
         ensures tool { (is_away self.new ≡ is_away self.old) × (moves self.new ≡ moves self.old) }
         ensures short { length self.new < 2 ^ 64 }

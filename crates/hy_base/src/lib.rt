@@ -10,6 +10,7 @@ mod command_line;
 mod faults;
 mod items;
 mod layout;
+mod number;
 mod record;
 mod report;
 mod shared;
@@ -20,9 +21,10 @@ pub use command_line::Words;
 pub use faults::Failed;
 pub use items::Items;
 pub use layout::{BadShape, Field, Shape};
+pub use number::read_number;
 pub use record::{
     Clash, Entry, EntryKind, Intention, Mark, Member, Points, Row, Rows, Span, Spans, Value,
-    ValueError, Verdict, Write, Writes,
+    ValueError, Verdict, Verdicts, Write, Writes,
 };
 pub use report::{Answer, Answers, Outcome, Pair, Pairs, Replies, Reply, Results, ServerRows};
 pub use shared::Shared;

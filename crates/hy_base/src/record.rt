@@ -2,7 +2,7 @@
 ghost use Rattle.std.specs.Prelude.{◌≡◌, ℕ, ◌<◌, ◌≤◌, ◌↔◌, IfOk, IfErr, IsErrOf, IsTrue, Err, length};
 ghost use Rattle.std.specs.List.{list_all};
 ghost use Rattle.hy_base.specs.Value.{IsValue, is_printable, is_value};
-ghost use Rattle.hy_base.specs.Shape.{IsWithin};
+ghost use Rattle.hy_base.specs.Limits.{IsServerNumber};
 ghost use Rattle.hy_base.specs.Entry.{IsEntry, IsTransaction};
 ghost use Rattle.hy_base.specs.declared.record.EntryKind.TheVariants.{Filler, Txn};
 
@@ -177,7 +177,7 @@ impl Model for Entry {
 impl Entry {
     /// The filler of a server.
     pub fn filler(server: u8) -> Entry
-        requires { IsWithin 1 8 server }
+        requires { IsServerNumber server }
         ensures { result ≡ Filler server }
     {
         Entry {
@@ -271,6 +271,9 @@ impl Clone for Row {
 
 /// Rows, in the order of their keys.
 pub type Rows = Items<Row>;
+
+/// The verdicts of the positions from 1 on, none for a filler.
+pub type Verdicts = Items<Option<Verdict>>;
 
 /// Of a block of keys the writers are known up to the position `dependency`.
 #[derive(Clone, Copy, Debug, PartialEq, Eq)]

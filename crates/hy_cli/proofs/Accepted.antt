@@ -11,9 +11,8 @@ use Rattle.clap.specs.Walk.{Held, Outcome, default_rows, after_step, bundle, lon
 use Rattle.clap.specs.Simple.{Shape}
 use Rattle.clap.specs.Kinds.{Kinds, or_else, value_kinds}
 use Rattle.clap.specs.Faults.{bundle_fault, defaults_fault, flag_word_fault, flags_fault, other_fault, step_fault, word_fault, level_fault, long_fault, react_fault, set_fault, settle_fault, turn_fault, use_fault, values_fault, walk_fault}
-use Rattle.clap.specs.Takes.{value_passes, values_pass}
+use Rattle.clap.specs.Takes.{value_passes, values_pass, is_given as is_used}
 use Rattle.hy_cli.proofs.Matches.{row_at}
-use Rattle.clap.specs.Takes.{is_given as is_used}
 use Rattle.clap.specs.declared.builder.value_parser.Reading.TheVariants.{AsWritten}
 use Rattle.clap.specs.declared.error.kind.ErrorKind.TheVariants.{ArgumentConflict, MissingRequiredArgument}
 use Rattle.clap.specs.declared.parser.matches.ValueSource.TheVariants.{CommandLine, DefaultValue}

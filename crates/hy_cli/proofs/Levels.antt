@@ -4,8 +4,7 @@ use Rattle.std.specs.Prelude.{fold}
 use Rattle.std.specs.List.{find, list_all}
 use Rattle.std.specs.Str.{bytes_eq}
 use Rattle.clap.specs.Walk.{Row, Rule, Walk, finished, walk, nothing_held, rows_after, with_default}
-use Rattle.clap.specs.Takes.{default_passes, level_passes, settle_passes}
-use Rattle.clap.specs.Takes.{is_given as is_used}
+use Rattle.clap.specs.Takes.{default_passes, level_passes, settle_passes, is_given as is_used}
 use Rattle.clap.proofs.WalkLemmas.{both}
 use Rattle.hy_base.specs.Spelling.{Text}
 use Rattle.hy_cli.specs.CommandLine.{CliOption, Given, given_all, has_needed, is_given, option_named, reads, spelled}

@@ -97,11 +97,11 @@ abbrev pub command_named : Text → Option CliCommand
 command_named word = find (λ c. bytes_eq c.name word) commands
 
 -- the numbers of a line are in their ranges
-abbrev pub IsInRange : Line → Type 0
-IsInRange (Run threads point save) = IsWithin 1 16 threads
-IsInRange (Sim threads) = IsWithin 1 16 threads
-IsInRange (Load seed size threads) = IsWithin 1 80000 size × IsWithin 1 16 threads
-IsInRange _ = Unit {0}
+abbrev pub IsInOptionRange : Line → Type 0
+IsInOptionRange (Run threads point save) = IsWithin 1 16 threads
+IsInOptionRange (Sim threads) = IsWithin 1 16 threads
+IsInOptionRange (Load seed size threads) = IsWithin 1 80000 size × IsWithin 1 16 threads
+IsInOptionRange _ = Unit {0}
 
 -- the word for the command of a line
 abbrev pub command_word : Line → Text

@@ -1,7 +1,7 @@
 //! What the matches of `clap` say.
 ghost use Rattle.std.specs.Prelude.{◌≡◌, Some, codes, false, is_some, true};
 ghost use Rattle.hy_base.specs.Shape.{IsWithin};
-ghost use Rattle.hy_cli.specs.CommandLine.{IsInRange, command_named, command_word, flag, seed_option, size_option, threads_option};
+ghost use Rattle.hy_cli.specs.CommandLine.{IsInOptionRange, command_named, command_word, flag, seed_option, size_option, threads_option};
 ghost use Rattle.hy_cli.specs.Matches.{choices_found, has_accepted, is_accepted, line_found};
 ghost use Rattle.clap.specs.Words.{found_of, rows_of};
 
@@ -46,7 +46,7 @@ fn flag_of(found: &ArgMatches<'_>, name: &str) -> bool
 pub(crate) fn line_from(name: &str, found: &ArgMatches<'_>) -> Line
     requires known { is_some (command_named name.now) ≡ true }
     requires accepted { has_accepted name.now (rows_of (found_of found.now)) ≡ true }
-    ensures range { IsInRange result }
+    ensures range { IsInOptionRange result }
     ensures word { command_word result ≡ name.now }
     ensures line { line_found name.now (rows_of (found_of found.now)) ≡ Some result }
 {

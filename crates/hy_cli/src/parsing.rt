@@ -1,6 +1,6 @@
 //! From the words of a command line to what they ask for.
 ghost use Rattle.std.specs.Prelude.{◌≡◌, Some, false, map, IsErr, IfErr, IfOk, MatchResult, slice_get};
-ghost use Rattle.hy_cli.specs.CommandLine.{IsInRange, command_word, line_of, names_command};
+ghost use Rattle.hy_cli.specs.CommandLine.{IsInOptionRange, command_word, line_of, names_command};
 ghost use Rattle.hy_cli.specs.Matches.{Asks, refuses};
 ghost use Rattle.hy_cli.specs.declared.line.Line.{Line};
 
@@ -21,7 +21,7 @@ pub fn parse(alloc: Global, words: &Words) -> Result<Line, CliError>
     ensures refused { IfErr result (λ e. e ≡ CliError.Usage → refuses words.now) }
     ensures meaning { IfOk result (Asks words.now) }
     ensures word { IfOk result (λ line. slice_get words.now 1 ≡ Some (command_word line)) }
-    ensures range { IfOk result IsInRange }
+    ensures range { IfOk result IsInOptionRange }
 {
     let texts = texts_of(alloc, words)?;
     parse_texts(alloc, texts.as_slice())
@@ -46,7 +46,7 @@ fn parse_texts(alloc: Global, words: &[&str]) -> Result<Line, CliError>
     ensures refused { IfErr result (λ e. e ≡ CliError.Usage → refuses (map (λ t. t.now) words.now)) }
     ensures meaning { IfOk result (Asks (map (λ t. t.now) words.now)) }
     ensures word { IfOk result (λ line. slice_get (map (λ t. t.now) words.now) 1 ≡ Some (command_word line)) }
-    ensures range { IfOk result IsInRange }
+    ensures range { IfOk result IsInOptionRange }
 {
     let command = hyder_command(alloc)?;
     match command.try_get_matches_from(words) {

@@ -12,7 +12,7 @@ use Rattle.hy_rules.specs.History.{pairs_of}
 use Rattle.hy_rules.specs.Validation.{live}
 use Rattle.hy_rules.specs.Exec.{exec}
 use Rattle.hy_rules.specs.Runs.{program_of}
-use Rattle.hy_rules.specs.RollingLaws.{AreSame}
+use Rattle.hy_rules.specs.Laws.{AreSame}
 use Rattle.hy_rules.proofs.Growth.{growth_keeps_rows}
 use Rattle.hy_clients.specs.declared.answered.Answered.{Answered}
 use Rattle.hy_clients.specs.Programs.{answers_given}

@@ -11,16 +11,16 @@ use Rattle.hy_base.specs.declared.workload.Program.{Program}
 use Rattle.hy_base.specs.Script.{Workload}
 use Rattle.hy_exec.specs.declared.txn.Finished.{Finished}
 use Rattle.hy_exec.specs.declared.txn.Finished.TheVariants.{ReadOnly, Entry}
-use Rattle.hy_exec.specs.Running.{Running, has_written as wrote, finished}
+use Rattle.hy_exec.specs.Running.{Running, notes_write as wrote, finish_of}
 use Rattle.hy_hist.specs.Passes.{Lock, Known}
 use Rattle.hy_rules.specs.Exec.{Effects, exec, intention}
 use Rattle.hy_rules.specs.History.{pairs_of}
 use Rattle.hy_rules.specs.Moves.{home_server}
 use Rattle.hy_rules.specs.Runs.{setting_of as script_setting, program_of, execution}
 use Rattle.hy_rules.specs.Validation.{live}
-use Rattle.hy_hub.specs.declared.mark.Mark.{Mark}
-use Rattle.hy_hub.specs.Trace.{state_of}
-use Rattle.hy_hub.specs.Hub.{IsTold}
+use Rattle.hy_hub.specs.declared.mark.Occurrence.{Occurrence}
+use Rattle.hy_hub.specs.Trace.{state_after}
+use Rattle.hy_hub.specs.Hub.{IsHubHistory}
 use Rattle.hy_hub.specs.Calls.{len_of}
 use Rattle.hy_hub.proofs.Later.{not_empty}
 use Rattle.hy_clients.specs.declared.answered.Answered.{Answered}
@@ -28,26 +28,26 @@ use Rattle.hy_clients.specs.declared.answered.End as end
 use Rattle.hy_clients.specs.declared.answered.End.TheVariants.{Reading}
 use Rattle.hy_clients.specs.Passing.{IsRunPass, IsNextTurn, OpensStanding}
 use Rattle.hy_clients.specs.Programs.{EndsProgram, EndsAs, before}
-use Rattle.hy_clients.specs.Serving.{IsClient, AreLive, TakesEntry, Takes, EndsReading, IsOwnEnd, EndsBy, Ends}
+use Rattle.hy_clients.specs.Serving.{IsServedClient, AreLive, TakesEntry, Takes, EndsReading, IsOwnEnd, EndsBy, EndsProgram}
 use Rattle.hy_clients.proofs.Turning.{prefix_length, prefix_take, take_prefix}
 use Rattle.hy_clients.proofs.Living.{live_on}
 use Rattle.hy_clients.proofs.Openings.{stood_before}
 use Rattle.hy_clients.proofs.Passes.{entry_is_own}
 
 -- a turn by which a program that left this ends, and how that is told
-record EndsFor (script : Workload) (client snap : ℕ) (effects : Effects) (old new : Known Mark) (told : end.End) : Type 0 where
-  pub turn : ℕ × Mark
+record EndsFor (script : Workload) (client snap : ℕ) (effects : Effects) (old new : Known Occurrence) (told : end.End) : Type 0 where
+  pub turn : ℕ × Occurrence
   pub next : IsNextTurn client old new turn
   pub ends : EndsProgram script client snap (Some effects) turn.1
   pub ends_as : EndsAs (len_of (before new.seen turn)) turn.1 told
 
-module _ (script : Workload) (client server snap : ℕ) (effects : Effects) (old new : Known Mark) (told : end.End) (home : home_server (script_setting script) client ≡ server) where
+module _ (script : Workload) (client server snap : ℕ) (effects : Effects) (old new : Known Occurrence) (told : end.End) (home : home_server (script_setting script) client ≡ server) where
   read : wrote effects ≡ false → (told ≡ Reading) × EndsReading client old new → EndsFor script client snap effects old new told
   read none ends = record {
     turn = ends.1.turn;
     next = ends.1.next;
     ends = subst (EndsProgram script client snap (Some effects)) (sym ends.1.ends) (refl, none);
-    ends_as = subst (λ (m : Mark). EndsAs (len_of (before new.seen ends.1.turn)) m told) (sym ends.1.ends) ends.0;
+    ends_as = subst (λ (m : Occurrence). EndsAs (len_of (before new.seen ends.1.turn)) m told) (sym ends.1.ends) ends.0;
   }
 
   taken : wrote effects ≡ true → Takes client (Txn (intention server client snap effects)) old new told → EndsFor script client snap effects old new told
@@ -61,11 +61,11 @@ module _ (script : Workload) (client server snap : ℕ) (effects : Effects) (old
   by_case true w ends = taken w ends
   by_case false w ends = read w ends
 
-  ends_for : (pairs : List Pair) (f : Finished) → f ≡ finished server client (record { at = snap; pairs = pairs; effects = effects }) → EndsBy client f old new told → EndsFor script client snap effects old new told
+  ends_for : (pairs : List Pair) (f : Finished) → f ≡ finish_of server client (record { at = snap; pairs = pairs; effects = effects }) → EndsBy client f old new told → EndsFor script client snap effects old new told
   ends_for pairs f e ends = by_case (wrote effects) refl (subst (λ (g : Finished). EndsBy client g old new told) e ends)
 
 -- an entry that is left may be appended
-pub own_end : (lock : Lock) (script : Workload) (client server : ℕ) (pass : Known Mark) (r : Running) (f : Finished) → IsClient script client server → IsRunPass lock script pass → f ≡ finished server client r → IsOwnEnd client pass.seen f
+pub own_end : (lock : Lock) (script : Workload) (client server : ℕ) (pass : Known Occurrence) (r : Running) (f : Finished) → IsServedClient script client server → IsRunPass lock script pass → f ≡ finish_of server client r → IsOwnEnd client pass.seen f
 own_end lock script client server pass r f own run e = subst (IsOwnEnd client pass.seen) (sym e) (either (wrote r.effects))
   where
     either : (b : Bool) → IsOwnEnd client pass.seen (if b then Entry (Txn (intention server client r.at r.effects)) else ReadOnly r.at)
@@ -73,16 +73,16 @@ own_end lock script client server pass r f own run e = subst (IsOwnEnd client pa
     either false = tt
 
 -- what the program of this number comes to on the live rows
-execution_is : (script : Workload) (client number snap : ℕ) (program : Program) (list : List Mark) (rows : List Row) → program_of script client number ≡ Some program → AreLive script list snap rows → OpensStanding list
-    → execution script (state_of list).log client number snap ≡ Some (exec program (pairs_of rows))
+execution_is : (script : Workload) (client number snap : ℕ) (program : Program) (list : List Occurrence) (rows : List Row) → program_of script client number ≡ Some program → AreLive script list snap rows → OpensStanding list
+    → execution script (state_after list).log client number snap ≡ Some (exec program (pairs_of rows))
 execution_is script client number snap program list rows e live_rows stood =
-    ap (option_map (λ (p : Program). exec p (live script.shape (state_of list).log snap))) e ∙ ap (λ (pairs : List Pair). Some (exec program pairs)) (sym (live_rows.are stood))
+    ap (option_map (λ (p : Program). exec p (live script.shape (state_after list).log snap))) e ∙ ap (λ (pairs : List Pair). Some (exec program pairs)) (sym (live_rows.are stood))
 
 -- A program was begun and run on the rows of its snapshot, and ended by what it left. So it ends as it does on its snapshot.
-pub program_ends : (script : Workload) (client server number : ℕ) (program : Program) (rows : List Row) (f : Finished) (old new : Known Mark) (told : Answered)
-    → home_server (script_setting script) client ≡ server → program_of script client number ≡ Some program → IsTold old.seen → AreLive script old.seen told.snap rows
-    → f ≡ finished server client (record { at = told.snap; pairs = pairs_of rows; effects = (exec program (pairs_of rows)).1 }) → told.answers ≡ (exec program (pairs_of rows)).0 → EndsBy client f old new told.end
-    → Ends script client number old new told
+pub program_ends : (script : Workload) (client server number : ℕ) (program : Program) (rows : List Row) (f : Finished) (old new : Known Occurrence) (told : Answered)
+    → home_server (script_setting script) client ≡ server → program_of script client number ≡ Some program → IsHubHistory old.seen → AreLive script old.seen told.snap rows
+    → f ≡ finish_of server client (record { at = told.snap; pairs = pairs_of rows; effects = (exec program (pairs_of rows)).1 }) → told.answers ≡ (exec program (pairs_of rows)).0 → EndsBy client f old new told.end
+    → EndsProgram script client number old new told
 program_ends script client server number program rows f old new told home e is live_rows left answers ends =
     let effects : Effects = (exec program (pairs_of rows)).1 in
     let by : EndsFor script client told.snap effects old new told.end = ends_for script client server told.snap effects old new told.end home (pairs_of rows) f left ends in
@@ -98,5 +98,5 @@ program_ends script client server number program rows f old new told home e is l
       answers = λ stood. answers ∙ sym (ap (λ (o : Option (List Answer × Effects)). option_map_or (λ d. d.0) o []) (done stood));
     }
 
-pub ends_same : (script : Workload) (client number : ℕ) (old new : Known Mark) (mine told : Answered) → mine ≡ told → Ends script client number old new mine → Ends script client number old new told
-ends_same script client number old new mine told same ends = subst (λ (t : Answered). Ends script client number old new t) same ends
+pub ends_same : (script : Workload) (client number : ℕ) (old new : Known Occurrence) (mine told : Answered) → mine ≡ told → EndsProgram script client number old new mine → EndsProgram script client number old new told
+ends_same script client number old new mine told same ends = subst (λ (t : Answered). EndsProgram script client number old new t) same ends

@@ -8,13 +8,13 @@ use Rattle.hy_base.specs.Lists.{nth}
 use Rattle.hy_base.specs.Script.{Workload}
 use Rattle.hy_rules.specs.Moves.{State, after}
 use Rattle.hy_rules.specs.Runs.{Ended, Ending, ByReading, ByEntryAt, ByFullLog, setting_of as script_setting, begun_snap, ended_by}
-use Rattle.hy_hub.specs.declared.mark.Mark.{Mark}
-use Rattle.hy_hub.specs.declared.mark.Mark.TheVariants.{Opened, Happened, Halted, Lifted, Landed}
+use Rattle.hy_hub.specs.declared.mark.Occurrence.{Occurrence}
+use Rattle.hy_hub.specs.declared.mark.Occurrence.TheVariants.{Opened, Happened, Halted, Lifted, Landed}
 use Rattle.hy_hub.specs.Trace.{is_stop}
 use Rattle.hy_hub.specs.Turns.{is_event_of}
 
 -- the programs that end along the marks, from this state on
-abbrev pub endings : Workload → State → List Mark → List Ended
+abbrev pub endings : Workload → State → List Occurrence → List Ended
 endings script s [] = []
 endings script s (Opened o ∷ marks) = endings script s marks
 endings script s (Happened event added ∷ marks) = ended_by s event ++ endings script (after (script_setting script) s event added) marks

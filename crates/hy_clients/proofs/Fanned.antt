@@ -10,9 +10,9 @@ use Rattle.hy_base.specs.Lists.{nth}
 use Rattle.hy_base.specs.Script.{Workload}
 use Rattle.hy_hist.specs.Passes.{Lock, Known, made}
 use Rattle.hy_hist.proofs.Lists.{prefix_trans}
-use Rattle.hy_hub.specs.declared.mark.Mark.{Mark}
-use Rattle.hy_hub.specs.Trace.{setting_of}
-use Rattle.hy_hub.specs.Hub.{IsTold}
+use Rattle.hy_hub.specs.declared.mark.Occurrence.{Occurrence}
+use Rattle.hy_hub.specs.Trace.{setting_in}
+use Rattle.hy_hub.specs.Hub.{IsHubHistory}
 use Rattle.hy_hub.specs.Calls.{IsIdle, OneTurn, OwnTurn}
 use Rattle.hy_hub.specs.Turns.{is_mark_of}
 use Rattle.hy_hub.proofs.Later.{not_empty}
@@ -24,28 +24,28 @@ use Rattle.hy_clients.specs.Served.{AllServed, IsServedBy}
 use Rattle.hy_clients.specs.Fanning.{TaskView, AreNumbered, IsReadyTask, IsEndedTask}
 
 -- a pass that has seen what another pass of the run has
-pub same_run : (lock : Lock) (script : Workload) (pass other : Known Mark) → IsIdle lock pass → pass.seen ≡ other.seen → IsRunPass lock script other → IsRunPass lock script pass
+pub same_run : (lock : Lock) (script : Workload) (pass other : Known Occurrence) → IsIdle lock pass → pass.seen ≡ other.seen → IsRunPass lock script other → IsRunPass lock script pass
 same_run lock script pass other idle same run = record {
   idle = idle;
-  told = subst IsTold (sym same) run.told;
-  setting_is = ap setting_of same ∙ run.setting_is;
+  told = subst IsHubHistory (sym same) run.told;
+  setting_is = ap setting_in same ∙ run.setting_is;
 }
 
 -- a pass that has taken in another
-pub joined : (lock : Lock) (script : Workload) (pass one other : Known Mark) → IsIdle lock pass → (pass.seen ≡ one.seen) ⊎ (pass.seen ≡ other.seen) → IsRunPass lock script one → IsRunPass lock script other → IsRunPass lock script pass
+pub joined : (lock : Lock) (script : Workload) (pass one other : Known Occurrence) → IsIdle lock pass → (pass.seen ≡ one.seen) ⊎ (pass.seen ≡ other.seen) → IsRunPass lock script one → IsRunPass lock script other → IsRunPass lock script pass
 joined lock script pass one other idle seen first second =
     elim seen [
       | inl e ↦ same_run lock script pass one idle e first
       | inr e ↦ same_run lock script pass other idle e second
     ]
 
-pub turn_grown : {all : ℕ} {old new : Known Mark} {does : List Mark → List Mark → Type 0} → OneTurn all old new does → IsPrefix old.seen new.seen
+pub turn_grown : {all : ℕ} {old new : Known Occurrence} {does : List Occurrence → List Occurrence → Type 0} → OneTurn all old new does → IsPrefix old.seen new.seen
 turn_grown {all} {old} {new} {does} turn =
     let p = turn.grown in
     (p.0 ++ turn.added, sym (append_assoc old.seen p.0 turn.added) ∙ (ap (λ l. l ++ turn.added) p.1 ∙ sym turn.seen))
 
 -- a pass of the run that took a turn
-pub run_on : (lock : Lock) (script : Workload) {all : ℕ} {old new : Known Mark} {does : List Mark → List Mark → Type 0} → IsIdle lock new → OneTurn all old new does → IsRunPass lock script old → IsRunPass lock script new
+pub run_on : (lock : Lock) (script : Workload) {all : ℕ} {old new : Known Occurrence} {does : List Occurrence → List Occurrence → Type 0} → IsIdle lock new → OneTurn all old new does → IsRunPass lock script old → IsRunPass lock script new
 run_on lock script {all} {old} {new} {does} idle turn run = record {
   idle = idle;
   told = turn.told;
@@ -53,12 +53,12 @@ run_on lock script {all} {old} {new} {does} idle turn run = record {
 }
 
 -- the same for a call of several holds
-pub own_grown : {old new : Known Mark} {does : List Mark → List Mark → Type 0} → OwnTurn old new does → IsPrefix old.seen new.seen
+pub own_grown : {old new : Known Occurrence} {does : List Occurrence → List Occurrence → Type 0} → OwnTurn old new does → IsPrefix old.seen new.seen
 own_grown {old} {new} {does} turn =
     let p = turn.grown in
     (p.0 ++ (turn.own ++ turn.after), sym (append_assoc old.seen p.0 (turn.own ++ turn.after)) ∙ (ap (λ l. l ++ (turn.own ++ turn.after)) p.1 ∙ sym turn.seen))
 
-pub own_run_on : (lock : Lock) (script : Workload) {old new : Known Mark} {does : List Mark → List Mark → Type 0} → IsIdle lock new → OwnTurn old new does → IsRunPass lock script old → IsRunPass lock script new
+pub own_run_on : (lock : Lock) (script : Workload) {old new : Known Occurrence} {does : List Occurrence → List Occurrence → Type 0} → IsIdle lock new → OwnTurn old new does → IsRunPass lock script old → IsRunPass lock script new
 own_run_on lock script {old} {new} {does} idle turn run = record {
   idle = idle;
   told = turn.told;
@@ -79,7 +79,7 @@ numbered_kept number (x ∷ xs) (y ∷ ys) count same all =
     (same 0 x (omega arith) ∙ all.0, numbered_kept (suc number) xs ys (omega (arith, count)) (λ k d below. same (suc k) d (omega (arith, below))) all.1)
 
 -- What is known of the tasks while their passes are split off, with room for a task of each client.
-pub record Spreads (lock : Lock) (script : Workload) (old pass : Known Mark) (tasks : List TaskView) (room : ℕ) : Type 0 where
+pub record Spreads (lock : Lock) (script : Workload) (old pass : Known Occurrence) (tasks : List TaskView) (room : ℕ) : Type 0 where
   pub idle : IsIdle lock pass
   pub same : pass.seen ≡ old.seen
   pub parts : pass.parts + length tasks ≡ 129
@@ -88,7 +88,7 @@ pub record Spreads (lock : Lock) (script : Workload) (old pass : Known Mark) (ta
   pub numbered : AreNumbered 1 tasks
 
 -- one more task, of the next client
-pub spreads_more : (lock : Lock) (script : Workload) (old pass next one : Known Mark) (tasks : List TaskView) (t : TaskView) (room later at : ℕ) → IsRunPass lock script old → Spreads lock script old pass tasks room → length tasks ≡ at → at < length script.clients → room ≤ later
+pub spreads_more : (lock : Lock) (script : Workload) (old pass next one : Known Occurrence) (tasks : List TaskView) (t : TaskView) (room later at : ℕ) → IsRunPass lock script old → Spreads lock script old pass tasks room → length tasks ≡ at → at < length script.clients → room ≤ later
     → IsIdle lock next → next.seen ≡ pass.seen → next.parts ≡ pass.parts - 1 → IsIdle lock one → one.seen ≡ pass.seen → one.parts ≡ 1 → made one ≡ [] → length script.clients ≤ 128 → t ≡ record { client = at + 1; pass = one; told = []; whole = false }
     → Spreads lock script old next (tasks ++ t ∷ []) later
 spreads_more lock script old pass next one tasks t room later at run so_far count below more idle same parts idle' same' part nothing few is =
@@ -99,7 +99,7 @@ spreads_more lock script old pass next one tasks t room later at run so_far coun
       part = part;
       own = own.0;
       is_own = own.1;
-      nothing = ap (filter (λ (turn : ℕ × Mark). is_mark_of (at + 1) turn.1)) nothing;
+      nothing = ap (filter (λ (turn : ℕ × Occurrence). is_mark_of (at + 1) turn.1)) nothing;
       untold = refl;
     } in
     let n : length (tasks ++ t ∷ []) ≡ length tasks + 1 = omega (arith, length-append tasks (t ∷ [])) in
@@ -116,7 +116,7 @@ spreads_more lock script old pass next one tasks t room later at run so_far coun
     }
 
 -- What is known of the tasks while their passes are joined: of those that came before the rest the passes are joined.
-pub record Gathers (lock : Lock) (script : Workload) (old pass : Known Mark) (tasks done rest : List TaskView) (all : List (List Answered)) (whole : Bool) : Type 0 where
+pub record Gathers (lock : Lock) (script : Workload) (old pass : Known Occurrence) (tasks done rest : List TaskView) (all : List (List Answered)) (whole : Bool) : Type 0 where
   pub pass_is : IsRunPass lock script pass
   pub parts : pass.parts + length rest ≡ 129
   pub grown : IsPrefix old.seen pass.seen
@@ -129,7 +129,7 @@ middle : {X : Type 0} (P : X → Type 0) (all front : List X) (x : X) (rest : Li
 middle P all front x rest is holds = subst P (get_or-append_seam front x rest x) (subst (All P) is holds (length front) x (omega (arith, length-append front (x ∷ rest))))
 
 -- one more pass is joined
-pub gathers_more : (lock : Lock) (script : Workload) (old pass next : Known Mark) (tasks done rest rest' : List TaskView) (t : TaskView) (all : List (List Answered)) (whole whole' : Bool)
+pub gathers_more : (lock : Lock) (script : Workload) (old pass next : Known Occurrence) (tasks done rest rest' : List TaskView) (t : TaskView) (all : List (List Answered)) (whole whole' : Bool)
     → All (IsEndedTask lock script) tasks → Gathers lock script old pass tasks done rest all whole → rest ≡ t ∷ rest'
     → IsIdle lock next → next.parts ≡ pass.parts + t.pass.parts → (next.seen ≡ pass.seen) ⊎ (next.seen ≡ t.pass.seen) → IsPrefix pass.seen next.seen → IsPrefix t.pass.seen next.seen → (whole' ≡ true → (whole ≡ true) × (t.whole ≡ true))
     → Gathers lock script old next tasks (done ++ t ∷ []) rest' (all ++ t.told ∷ []) whole'
@@ -150,7 +150,7 @@ gathers_more lock script old pass next tasks done rest rest' t all whole whole' 
     }
 
 -- a client that the task of its number served
-served_by : (lock : Lock) (script : Workload) (list : List Mark) (number : ℕ) (client : Client) (t : TaskView) → nth script.clients number ≡ Some client → t.client ≡ number → IsEndedTask lock script t → t.whole ≡ true → IsPrefix t.pass.seen list → IsServedBy script list number client t.told
+served_by : (lock : Lock) (script : Workload) (list : List Occurrence) (number : ℕ) (client : Client) (t : TaskView) → nth script.clients number ≡ Some client → t.client ≡ number → IsEndedTask lock script t → t.whole ≡ true → IsPrefix t.pass.seen list → IsServedBy script list number client t.told
 served_by lock script list number client t is same ended whole seen =
     let own : ended.own ≡ client = let e = ended.is_own in let f : nth script.clients t.client ≡ nth script.clients number = ap (nth script.clients) same in let g : Some ended.own ≡ Some client = sym e ∙ (f ∙ is) in cc g in
     let served = ended.served whole in
@@ -163,7 +163,7 @@ served_by lock script list number client t is same ended whole seen =
     }
 
 -- all clients, by the tasks of all of them
-pub all_served : (lock : Lock) (script : Workload) (list : List Mark) (number : ℕ) (clients : List Client) (ts : List TaskView)
+pub all_served : (lock : Lock) (script : Workload) (list : List Occurrence) (number : ℕ) (clients : List Client) (ts : List TaskView)
     → ((k : ℕ) → nth script.clients (number + k) ≡ slice_get clients k) → length ts ≡ length clients → AreNumbered number ts → All (IsEndedTask lock script) ts → All (λ (t : TaskView). t.whole ≡ true) ts → All (λ (t : TaskView). IsPrefix t.pass.seen list) ts
     → AllServed script list number clients (map (λ (t : TaskView). t.told) ts)
 all_served lock script list number [] [] at count numbered ended whole seen = tt
@@ -179,7 +179,7 @@ all_served lock script list number (c ∷ clients) (t ∷ ts) at count numbered 
     )
 
 -- where all clients were served, they were on a list that goes on
-pub served_more : (script : Workload) (list later : List Mark) (number : ℕ) (clients : List Client) (told : List (List Answered)) → IsPrefix list later → AllServed script list number clients told → AllServed script later number clients told
+pub served_more : (script : Workload) (list later : List Occurrence) (number : ℕ) (clients : List Client) (told : List (List Answered)) → IsPrefix list later → AllServed script list number clients told → AllServed script later number clients told
 served_more script list later number [] [] p all = tt
 served_more script list later number [] (t ∷ told) p all = absurd all
 served_more script list later number (c ∷ clients) [] p all = absurd all
@@ -194,7 +194,7 @@ nothing_left [] none = refl
 nothing_left (x ∷ xs) none = absurd (omega (arith, none))
 
 -- where all passes are joined and all tasks are whole, all clients were served
-pub gathered : (lock : Lock) (script : Workload) (old pass : Known Mark) (tasks done rest : List TaskView) (all : List (List Answered)) (whole : Bool) → All (IsEndedTask lock script) tasks → AreNumbered 1 tasks → length tasks ≡ length script.clients
+pub gathered : (lock : Lock) (script : Workload) (old pass : Known Occurrence) (tasks done rest : List TaskView) (all : List (List Answered)) (whole : Bool) → All (IsEndedTask lock script) tasks → AreNumbered 1 tasks → length tasks ≡ length script.clients
     → Gathers lock script old pass tasks done rest all whole → length rest ≡ 0 → whole ≡ true → AllServed script pass.seen 1 script.clients all
 gathered lock script old pass tasks done rest all whole ended numbered count end none held =
     let same : tasks ≡ done = end.tasks_are ∙ (ap (λ (l : List TaskView). done ++ l) (nothing_left rest none) ∙ append-nil done) in

@@ -15,12 +15,12 @@ use Rattle.hy_base.specs.Script.{Workload}
 use Rattle.hy_rules.specs.Exec.{Effects, intention}
 use Rattle.hy_rules.specs.Moves.{State, Moves, after, home_server, is_begun, client_passes, surviving, appended, at_next_program}
 use Rattle.hy_rules.specs.Runs.{Ended, Ending, ByReading, ByEntryAt, ByFullLog, setting_of as script_setting, execution, snap_of, pending, leaves_write, begun_snap, own_entry, added as entries, ended, ended_by_append}
-use Rattle.hy_hub.specs.declared.mark.Mark.{Mark}
-use Rattle.hy_hub.specs.declared.mark.Mark.TheVariants.{Happened}
+use Rattle.hy_hub.specs.declared.mark.Occurrence.{Occurrence}
+use Rattle.hy_hub.specs.declared.mark.Occurrence.TheVariants.{Happened}
 use Rattle.hy_hub.specs.Turns.{is_event_of}
 use Rattle.hy_base.proofs.NthLemmas.{left_of}
 use Rattle.hy_clients.specs.declared.answered.Answered.{Answered}
-use Rattle.hy_clients.specs.Programs.{ending_of, effects_on, has_written, entry_of}
+use Rattle.hy_clients.specs.Programs.{ending_of_end, effects_on, has_left_entry, own_entry_of}
 use Rattle.hy_clients.proofs.Sessions.{nth_changed, is_running, same_number}
 use Rattle.hy_clients.proofs.Steady.{IsSteady}
 use Rattle.hy_clients.proofs.Progress.{IsAt, Goes, Works, IsTurn, closing, close_turn, begin_turn}
@@ -41,13 +41,13 @@ module _ (script : Workload) (s : State) (c : ℕ) (x : Session) (snap : ℕ) (a
       ap (λ (o : Option Session). option_to_list (option_map (λ (session : Session). let e : Ended = record { client = c; number = session.next; snap = begun_snap s c; ending = ending } in e) o)) at
       ∙ ap (λ (q : ℕ). let e : Ended = record { client = c; number = x.next; snap = q; ending = ending } in e ∷ []) snap_here
 
-  wrote_is : leaves_write script s c ≡ has_written (effects_on script s.log c x.next snap)
+  wrote_is : leaves_write script s c ≡ has_left_entry (effects_on script s.log c x.next snap)
   wrote_is = ap (λ (o : Option Effects). option_map_or (λ effects. nat_lt 0 (length effects.writes)) o false) pending_is
 
-  entry_is : own_entry script s c ≡ entry_of script c snap (effects_on script s.log c x.next snap)
+  entry_is : own_entry script s c ≡ own_entry_of script c snap (effects_on script s.log c x.next snap)
   entry_is =
       ap (λ (o : Option Effects). option_to_list (option_map (λ effects. Txn (intention (home_server (script_setting script) c) c (begun_snap s c) effects)) o)) pending_is
-      ∙ ap (λ (q : ℕ). entry_of script c q (effects_on script s.log c x.next snap)) snap_here
+      ∙ ap (λ (q : ℕ). own_entry_of script c q (effects_on script s.log c x.next snap)) snap_here
 
 taken_one : {A : Type 0} (o : Option A) → take 1 (option_to_list o) ≡ option_to_list o
 taken_one None = refl
@@ -69,7 +69,7 @@ appended_idle (e ∷ es) len x = refl
 
 -- ---- the turns that end a program
 
-append_turn : (script : Workload) (c : ℕ) (list : List Mark) (k : ℕ) (s : State) (added : List EntryKind) (x : Session) (snap : ℕ) (turns : List (ℕ × Mark)) (told : List Answered) → IsAt script list k s → IsSteady s
+append_turn : (script : Workload) (c : ℕ) (list : List Occurrence) (k : ℕ) (s : State) (added : List EntryKind) (x : Session) (snap : ℕ) (turns : List (ℕ × Occurrence)) (told : List Answered) → IsAt script list k s → IsSteady s
     → nth s.sessions c ≡ Some x → x.phase ≡ Begun snap → snap ≤ length s.log → Works script c x.next list snap ((k, Happened (Append c) added) ∷ turns) told → IsTurn script c list s (Append c) added x turns told
 append_turn script c list k s added x snap turns told here steady at runs within works =
     let cl = closing script c x.next s snap list k (Happened (Append c) added) turns told here works in
@@ -79,27 +79,27 @@ append_turn script c list k s added x snap turns told here steady at runs within
     let there : nth (after (script_setting script) s (Append c) added).sessions c ≡ Some new = rw (steady.calm) (nth_changed (appended added (length s.log)) s.sessions c x at) in
     close_turn script c list s (Append c) added x snap (Happened (Append c) added) turns told new cl (wrote, adds) there (appended_next added (length s.log) x) (appended_idle added (length s.log) x) within
     (λ t q e. ap (λ (a : Option ArmedStop). ended_by_append a s c) steady.calm ∙ (ended_here script s c x snap at runs (ByEntryAt (length s.log + 1))
-    ∙ (λ i. record { client = c; number = x.next; snap = sym q i; ending = ending_of (sym e i) } ∷ [])))
+    ∙ (λ i. record { client = c; number = x.next; snap = sym q i; ending = ending_of_end (sym e i) } ∷ [])))
 
-end_turn : (script : Workload) (c : ℕ) (list : List Mark) (k : ℕ) (s : State) (added : List EntryKind) (x : Session) (snap : ℕ) (turns : List (ℕ × Mark)) (told : List Answered) → IsAt script list k s → added ≡ []
+end_turn : (script : Workload) (c : ℕ) (list : List Occurrence) (k : ℕ) (s : State) (added : List EntryKind) (x : Session) (snap : ℕ) (turns : List (ℕ × Occurrence)) (told : List Answered) → IsAt script list k s → added ≡ []
     → nth s.sessions c ≡ Some x → x.phase ≡ Begun snap → snap ≤ length s.log → Works script c x.next list snap ((k, Happened (End c) added) ∷ turns) told → IsTurn script c list s (End c) added x turns told
 end_turn script c list k s added x snap turns told here none at runs within works =
     let cl = closing script c x.next s snap list k (Happened (End c) added) turns told here works in
     let read : leaves_write script s c ≡ false = wrote_is script s c x snap at runs ∙ cl.ends.1 in
     close_turn script c list s (End c) added x snap (Happened (End c) added) turns told (at_next_program x) cl (ap not read, none) (nth_changed at_next_program s.sessions c x at) refl refl within
-    (λ t q e. ended_here script s c x snap at runs ByReading ∙ (λ i. record { client = c; number = x.next; snap = sym q i; ending = ending_of (sym e i) } ∷ []))
+    (λ t q e. ended_here script s c x snap at runs ByReading ∙ (λ i. record { client = c; number = x.next; snap = sym q i; ending = ending_of_end (sym e i) } ∷ []))
 
-refuse_turn : (script : Workload) (c : ℕ) (list : List Mark) (k : ℕ) (s : State) (added : List EntryKind) (x : Session) (snap : ℕ) (turns : List (ℕ × Mark)) (told : List Answered) → IsAt script list k s → added ≡ []
+refuse_turn : (script : Workload) (c : ℕ) (list : List Occurrence) (k : ℕ) (s : State) (added : List EntryKind) (x : Session) (snap : ℕ) (turns : List (ℕ × Occurrence)) (told : List Answered) → IsAt script list k s → added ≡ []
     → nth s.sessions c ≡ Some x → x.phase ≡ Begun snap → snap ≤ length s.log → Works script c x.next list snap ((k, Happened (Refuse c) added) ∷ turns) told → IsTurn script c list s (Refuse c) added x turns told
 refuse_turn script c list k s added x snap turns told here none at runs within works =
     let cl = closing script c x.next s snap list k (Happened (Refuse c) added) turns told here works in
     let wrote : leaves_write script s c ≡ true = wrote_is script s c x snap at runs ∙ cl.ends.1 in
     close_turn script c list s (Refuse c) added x snap (Happened (Refuse c) added) turns told (at_next_program x) cl (wrote, none) (nth_changed at_next_program s.sessions c x at) refl refl within
-    (λ t q e. ended_here script s c x snap at runs ByFullLog ∙ (λ i. record { client = c; number = x.next; snap = sym q i; ending = ending_of (sym e i) } ∷ []))
+    (λ t q e. ended_here script s c x snap at runs ByFullLog ∙ (λ i. record { client = c; number = x.next; snap = sym q i; ending = ending_of_end (sym e i) } ∷ []))
 
 -- ---- any turn of the client
 
-module _ (script : Workload) (c : ℕ) (list : List Mark) (k : ℕ) (s : State) (added : List EntryKind) (x : Session) (turns : List (ℕ × Mark)) (told : List Answered)
+module _ (script : Workload) (c : ℕ) (list : List Occurrence) (k : ℕ) (s : State) (added : List EntryKind) (x : Session) (turns : List (ℕ × Occurrence)) (told : List Answered)
     (here : IsAt script list k s) (steady : IsSteady s) (at : nth s.sessions c ≡ Some x) (within : (snap : ℕ) → x.phase ≡ Begun snap → snap ≤ length s.log) where
   abbrev Turns : Event → Type 0
   Turns event = Moves (script_setting script) s event added (after (script_setting script) s event added) → Goes script c x.next list x.phase ((k, Happened event added) ∷ turns) told → IsTurn script c list s event added x turns told

@@ -12,17 +12,17 @@ use Rattle.hy_base.specs.Script.{Workload}
 use Rattle.hy_base.specs.declared.layout.Shape.{Shape}
 use Rattle.hy_base.specs.declared.record.EntryKind.{EntryKind}
 use Rattle.hy_disk.specs.Content.{Content}
-use Rattle.hy_log.specs.View.{View, HoldsUpTo}
-use Rattle.hy_rules.specs.EntryFormat.{spelling}
+use Rattle.hy_log.specs.View.{LogView, HoldsUpTo}
+use Rattle.hy_formats.specs.EntryFormat.{spelling}
 use Rattle.hy_rules.specs.Moves.{Setting}
-use Rattle.hy_rules.specs.Rolling.{Roll, rolled_upto, Stands}
+use Rattle.hy_rolling.specs.Rolling.{Roll, rolled_upto, Stands}
 use Rattle.hy_rules.specs.Runs.{setting_of as script_setting}
 use Rattle.hy_hub.specs.Origin.{Origin}
-use Rattle.hy_hub.specs.declared.mark.Mark.{Mark}
-use Rattle.hy_hub.specs.declared.mark.Mark.TheVariants.{Opened}
-use Rattle.hy_hub.specs.Trace.{setting_of, state_of}
-use Rattle.hy_hub.specs.Entries.{IsSound}
-use Rattle.hy_hub.specs.Hub.{IsBoard, IsTold, IsTorn}
+use Rattle.hy_hub.specs.declared.mark.Occurrence.{Occurrence}
+use Rattle.hy_hub.specs.declared.mark.Occurrence.TheVariants.{Opened}
+use Rattle.hy_hub.specs.Trace.{setting_in, state_after}
+use Rattle.hy_hub.specs.Entries.{IsSoundLog}
+use Rattle.hy_hub.specs.Hub.{IsBoard, IsHubHistory, IsTornLog}
 use Rattle.hy_hub.proofs.Growing.{sound_more}
 use Rattle.hy_hub.specs.Close.{IsClosed}
 use Rattle.hy_hub.specs.Outset.{IsOutset}
@@ -45,42 +45,42 @@ lawful_first : (s : Shape) (xs ys : List EntryKind) → IsLawful s (xs ++ ys) �
 lawful_first s xs ys lawful = record { capacity = let c = lawful.capacity in omega (arith, c, length-append xs ys); snaps = snaps_first s 0 xs ys lawful.snaps }
 
 -- the log begins with that of the opening
-pub found_first : (list : List Mark) → IsTold list → IsPrefix (opened_log list) (state_of list).log
+pub found_first : (list : List Occurrence) → IsHubHistory list → IsPrefix (opened_log list) (state_after list).log
 found_first list is =
     let o = is.opened in
     let t = is.told in
     let p : IsPrefix (Opened o ∷ []) list = (t.past, sym t.begins) in
-    subst (λ (l : List EntryKind). IsPrefix l (state_of list).log) (sym (ap opened_log t.begins)) (log_more o [] list p)
+    subst (λ (l : List EntryKind). IsPrefix l (state_after list).log) (sym (ap opened_log t.begins)) (log_more o [] list p)
 
 -- ---- a log that was cut short
 
-module _ {D : Type 0} {tells : Bool} {content : D → Content} {faults : ℕ} {list : List Mark} {log : View D} {entries : List EntryKind} {rollers : List Roll} (closed : IsClosed tells content faults list log entries rollers) where
+module _ {D : Type 0} {tells : Bool} {content : D → Content} {faults : ℕ} {list : List Occurrence} {log : LogView D} {entries : List EntryKind} {rollers : List Roll} (closed : IsClosed tells content faults list log entries rollers) where
   abbrev o : Origin
   o = closed.told.opened
 
-  shape_of : (setting_of list).shape ≡ log.shape
+  shape_of : (setting_in list).shape ≡ log.shape
   shape_of = ap (λ (w : Setting). w.shape) (told_setting closed.told.opened list _ _ closed.told.told) ∙ sym closed.stored.shape_is
 
   -- a log that runs, or that doesn't tell its bodies
-  whole_cut : (shape : Shape) → (setting_of list).shape ≡ shape → (IsTrue tells → log.stopped ≡ None) → IsCutShort tells content shape (opened_log list) log
+  whole_cut : (shape : Shape) → (setting_in list).shape ≡ shape → (IsTrue tells → log.stopped ≡ None) → IsCutShort tells content shape (opened_log list) log
   whole_cut shape same runs = record {
-    entries = (state_of list).log;
+    entries = (state_after list).log;
     begins = found_first list closed.told;
-    lawful = subst (λ (s : Shape). IsLawful s (state_of list).log) (sym closed.stored.shape_is ∙ (sym shape_of ∙ same)) closed.told.lawful;
+    lawful = subst (λ (s : Shape). IsLawful s (state_after list).log) (sym closed.stored.shape_is ∙ (sym shape_of ∙ same)) closed.told.lawful;
     sound = closed.told.sound;
     log_shape = sym shape_of ∙ same;
     bodies = λ t. closed.stored.bodies t ∙ ap (map spelling) closed.entries_are;
     torn = λ t some. absurd (some (runs t));
   }
 
-  torn_cut : (shape : Shape) → (setting_of list).shape ≡ shape → IsTorn content log entries → IsCutShort tells content shape (opened_log list) log
+  torn_cut : (shape : Shape) → (setting_in list).shape ≡ shape → IsTornLog content log entries → IsCutShort tells content shape (opened_log list) log
   torn_cut shape same torn =
       let here : log.shape ≡ shape = sym shape_of ∙ same in
       let mine = closed.entries_are in
       record {
-        entries = (state_of list).log;
+        entries = (state_after list).log;
         begins = found_first list closed.told;
-        lawful = subst (λ (s : Shape). IsLawful s (state_of list).log) (sym closed.stored.shape_is ∙ here) closed.told.lawful;
+        lawful = subst (λ (s : Shape). IsLawful s (state_after list).log) (sym closed.stored.shape_is ∙ here) closed.told.lawful;
         sound = closed.told.sound;
         log_shape = here;
         bodies = λ t. torn.bodies ∙ ap (map spelling) mine;
@@ -92,12 +92,12 @@ module _ {D : Type 0} {tells : Bool} {content : D → Content} {faults : ℕ} {l
         };
       }
 
-  by_stop : (shape : Shape) → (setting_of list).shape ≡ shape → (told : Bool) → tells ≡ told → (stop : Option ℕ) → log.stopped ≡ stop → IsCutShort tells content shape (opened_log list) log
+  by_stop : (shape : Shape) → (setting_in list).shape ≡ shape → (told : Bool) → tells ≡ told → (stop : Option ℕ) → log.stopped ≡ stop → IsCutShort tells content shape (opened_log list) log
   by_stop shape same told telling None is = whole_cut shape same (λ t. is)
   by_stop shape same false telling (Some at) is = whole_cut shape same (λ t. absurd (cc))
   by_stop shape same true telling (Some at) is = torn_cut shape same (closed.stored.torn telling (λ none. absurd (cc)))
 
-  pub cut_short : (shape : Shape) → (setting_of list).shape ≡ shape → IsCutShort tells content shape (opened_log list) log
+  pub cut_short : (shape : Shape) → (setting_in list).shape ≡ shape → IsCutShort tells content shape (opened_log list) log
   cut_short shape same = by_stop shape same tells refl log.stopped refl
 
   pub no_fewer : opened_faults list ≤ faults
@@ -107,15 +107,15 @@ module _ {D : Type 0} {tells : Bool} {content : D → Content} {faults : ℕ} {l
   rose stopped = subst (λ (n : ℕ). Rose n faults) (sym (ap opened_faults closed.told.told.begins)) (closed.stored.cause stopped)
 
 -- the log of a hub that was closed, by what its first pass had seen
-pub run_cut : {D : Type 0} {tells : Bool} {content : D → Content} {faults : ℕ} {list : List Mark} {log : View D} {entries : List EntryKind} {rollers : List Roll} (closed : IsClosed tells content faults list log entries rollers) (script : Workload) (first : List Mark)
-    → IsTold first → IsPrefix first list → setting_of first ≡ script_setting script → IsCutShort tells content script.shape (opened_log first) log
+pub run_cut : {D : Type 0} {tells : Bool} {content : D → Content} {faults : ℕ} {list : List Occurrence} {log : LogView D} {entries : List EntryKind} {rollers : List Roll} (closed : IsClosed tells content faults list log entries rollers) (script : Workload) (first : List Occurrence)
+    → IsHubHistory first → IsPrefix first list → setting_in first ≡ script_setting script → IsCutShort tells content script.shape (opened_log first) log
 run_cut {D} {tells} {content} {faults} {list} {log} {entries} {rollers} closed script first is p same =
     let o = opened_same first list is p in
-    let shape : (setting_of list).shape ≡ script.shape = ap (λ (w : Setting). w.shape) (o.setting ∙ same) in
+    let shape : (setting_in list).shape ≡ script.shape = ap (λ (w : Setting). w.shape) (o.setting ∙ same) in
     subst (λ (l : List EntryKind). IsCutShort tells content script.shape l log) o.log (cut_short closed script.shape shape)
 
 -- the log before a hub was made of it, or where none was
-pub outset_cut : {D : Type 0} (tells : Bool) (content : D → Content) (log back : View D) (entries : List EntryKind) (start : Roll) (servers : ℕ) (homes : List Home) (shape : Shape)
+pub outset_cut : {D : Type 0} (tells : Bool) (content : D → Content) (log back : LogView D) (entries : List EntryKind) (start : Roll) (servers : ℕ) (homes : List Home) (shape : Shape)
     → IsOutset tells log entries start servers homes → start.shape ≡ shape → back.shape ≡ log.shape → back.stopped ≡ None → (IsTrue tells → back.bodies ≡ log.bodies) → IsCutShort tells content shape entries back
 outset_cut tells content log back entries start servers homes shape outset same here running bodies = record {
   entries = entries;
@@ -141,5 +141,5 @@ all_stand o log rs stood boards whole = λ k d below.
     let all : take (rolled_upto r) log ≡ log = ap (λ (n : ℕ). take n log) (whole k d below) ∙ take_all (length log) log (omega arith) in
     subst (λ (l : List EntryKind). Stands l r) all ((boards k d below).stands stood)
 
-pub stands_first : (list : List Mark) (is : IsTold list) → OpensStanding list → Stands (take (rolled_upto is.opened.start) is.opened.found) is.opened.start
+pub stands_first : (list : List Occurrence) (is : IsHubHistory list) → OpensStanding list → Stands (take (rolled_upto is.opened.start) is.opened.found) is.opened.start
 stands_first list is stands = subst OpensStanding is.told.begins stands

@@ -11,16 +11,16 @@ use Rattle.hy_base.specs.Shape.{IsGoodShape}
 use Rattle.hy_base.specs.Script.{Workload}
 use Rattle.hy_rules.specs.History.{pairs_of}
 use Rattle.hy_rules.specs.Moves.{Setting, State, board_of, home_server}
-use Rattle.hy_rules.specs.Rolling.{Roll, rolled_upto, Stands}
+use Rattle.hy_rolling.specs.Rolling.{Roll, rolled_upto, Stands}
 use Rattle.hy_rules.specs.Runs.{setting_of as script_setting}
 use Rattle.hy_rules.specs.Validation.{live, rows}
 use Rattle.hy_pipe.specs.RollerLaws.{IsOfLonger}
 use Rattle.hy_pipe.proofs.Standing.{growth_keeps_standing}
-use Rattle.hy_hub.specs.declared.mark.Mark.{Mark}
-use Rattle.hy_hub.specs.declared.mark.Mark.TheVariants.{Opened, Happened, Halted, Lifted, Landed}
+use Rattle.hy_hub.specs.declared.mark.Occurrence.{Occurrence}
+use Rattle.hy_hub.specs.declared.mark.Occurrence.TheVariants.{Opened, Happened, Halted, Lifted, Landed}
 use Rattle.hy_hub.specs.Origin.{Origin}
-use Rattle.hy_hub.specs.Trace.{setting, setting_of, state_of}
-use Rattle.hy_hub.specs.Hub.{IsTold, IsBoardAt}
+use Rattle.hy_hub.specs.Trace.{setting, setting_in, state_after}
+use Rattle.hy_hub.specs.Hub.{IsHubHistory, IsBoardAt}
 use Rattle.hy_hub.specs.Calls.{IsRollerOf, board_at, len_of}
 use Rattle.hy_base.proofs.NthLemmas.{All-nth}
 use Rattle.hy_hub.proofs.Passing.{log_more, roller_more}
@@ -30,19 +30,19 @@ use Rattle.hy_clients.proofs.Openings.{stood_before}
 use Rattle.hy_clients.specs.Serving.{AreLive}
 
 -- the log of a list of a hub goes on as the list does
-pub log_on : (xs ys : List Mark) → IsTold xs → IsPrefix xs ys → IsPrefix (state_of xs).log (state_of ys).log
-log_on xs ys told p = subst (λ (l : List Mark). IsPrefix l ys → IsPrefix (state_of l).log (state_of ys).log) (sym told.told.begins) (log_more told.opened told.told.past ys) p
+pub log_on : (xs ys : List Occurrence) → IsHubHistory xs → IsPrefix xs ys → IsPrefix (state_after xs).log (state_after ys).log
+log_on xs ys told p = subst (λ (l : List Occurrence). IsPrefix l ys → IsPrefix (state_after l).log (state_after ys).log) (sym told.told.begins) (log_more told.opened told.told.past ys) p
 
-pub live_on : (script : Workload) (xs ys : List Mark) (snap : ℕ) (rows : List Row) → IsTold xs → IsPrefix xs ys → AreLive script xs snap rows → AreLive script ys snap rows
+pub live_on : (script : Workload) (xs ys : List Occurrence) (snap : ℕ) (rows : List Row) → IsHubHistory xs → IsPrefix xs ys → AreLive script xs snap rows → AreLive script ys snap rows
 live_on script xs ys snap rows told p is =
-    let grows : IsPrefix (state_of xs).log (state_of ys).log = log_on xs ys told p in
-    let within : snap ≤ length (state_of xs).log = is.within in
+    let grows : IsPrefix (state_after xs).log (state_after ys).log = log_on xs ys told p in
+    let within : snap ≤ length (state_after xs).log = is.within in
     record {
-      within = omega (arith, within, ap length grows.1, length-append (state_of xs).log grows.0);
-      are = λ stood. is.are (stood_before xs ys (not_empty xs told) p stood) ∙ (sym (live_grows script.shape (state_of xs).log grows.0 snap within) ∙ ap (λ l. live script.shape l snap) grows.1);
+      within = omega (arith, within, ap length grows.1, length-append (state_after xs).log grows.0);
+      are = λ stood. is.are (stood_before xs ys (not_empty xs told) p stood) ∙ (sym (live_grows script.shape (state_after xs).log grows.0 snap within) ∙ ap (λ l. live script.shape l snap) grows.1);
     }
 
-pub live_same : (script : Workload) (list : List Mark) (snap : ℕ) (rows tree : List Row) → rows ≡ tree → AreLive script list snap tree → AreLive script list snap rows
+pub live_same : (script : Workload) (list : List Occurrence) (snap : ℕ) (rows tree : List Row) → rows ≡ tree → AreLive script list snap tree → AreLive script list snap rows
 live_same script list snap rows tree same is = subst (λ (l : List Row). AreLive script list snap l) (sym same) is
 
 -- ---- a roller
@@ -55,25 +55,25 @@ stands_live log r good within stands =
     let longer : IsOfLonger (take upto log) (drop upto log) r = growth_keeps_standing (take upto log) (drop upto log) r good stands in
     ap pairs_of (longer.rows_are ∙ (λ i. rows r.shape (take-append-drop upto log i) (count i)))
 
-opened_live : (script : Workload) (o : Origin) (past : List Mark) (r : Roll) → IsGoodShape o.shape → setting o ≡ script_setting script → rolled_upto r ≤ len_of (Opened o ∷ past) → IsRollerOf (Opened o ∷ past) (rolled_upto r) r
+opened_live : (script : Workload) (o : Origin) (past : List Occurrence) (r : Roll) → IsGoodShape o.shape → setting o ≡ script_setting script → rolled_upto r ≤ len_of (Opened o ∷ past) → IsRollerOf (Opened o ∷ past) (rolled_upto r) r
     → AreLive script (Opened o ∷ past) (rolled_upto r) r.rolled.tree
 opened_live script o past r good same within is =
     let shape : r.shape ≡ script.shape = is.0 ∙ ap (λ (w : Setting). w.shape) same in
     record {
       within = within;
       are = λ stood.
-          stands_live (state_of (Opened o ∷ past)).log r (subst IsGoodShape (sym is.0) good) within (is.3 stood)
-          ∙ ap (λ s. live s (state_of (Opened o ∷ past)).log (rolled_upto r)) shape;
+          stands_live (state_after (Opened o ∷ past)).log r (subst IsGoodShape (sym is.0) good) within (is.3 stood)
+          ∙ ap (λ s. live s (state_after (Opened o ∷ past)).log (rolled_upto r)) shape;
     }
 
 -- the rows of a roller of the list are those that live where it is
-pub roller_live : (script : Workload) (list : List Mark) (r : Roll) → IsTold list → setting_of list ≡ script_setting script → rolled_upto r ≤ len_of list → IsRollerOf list (rolled_upto r) r → AreLive script list (rolled_upto r) r.rolled.tree
+pub roller_live : (script : Workload) (list : List Occurrence) (r : Roll) → IsHubHistory list → setting_in list ≡ script_setting script → rolled_upto r ≤ len_of list → IsRollerOf list (rolled_upto r) r → AreLive script list (rolled_upto r) r.rolled.tree
 roller_live script list r told same within is =
     let t = told.told in
-    subst (λ (l : List Mark). AreLive script l (rolled_upto r) r.rolled.tree) (sym t.begins)
-    (opened_live script told.opened t.past r told.good (sym (ap setting_of t.begins) ∙ same) (subst (λ (l : List Mark). rolled_upto r ≤ len_of l) t.begins within) (subst (λ (l : List Mark). IsRollerOf l (rolled_upto r) r) t.begins is))
+    subst (λ (l : List Occurrence). AreLive script l (rolled_upto r) r.rolled.tree) (sym t.begins)
+    (opened_live script told.opened t.past r told.good (sym (ap setting_in t.begins) ∙ same) (subst (λ (l : List Occurrence). rolled_upto r ≤ len_of l) t.begins within) (subst (λ (l : List Occurrence). IsRollerOf l (rolled_upto r) r) t.begins is))
 
-pub roller_at : (list : List Mark) (at : ℕ) (r : Roll) → IsRollerOf list at r → rolled_upto r ≡ at
+pub roller_at : (list : List Occurrence) (at : ℕ) (r : Roll) → IsRollerOf list at r → rolled_upto r ≡ at
 roller_at [] at r is = absurd is
 roller_at (Opened o ∷ marks) at r is = is.2
 roller_at (Happened event added ∷ marks) at r is = absurd is
@@ -90,23 +90,23 @@ board_low P len bs server low all = board_case (nth bs server) refl
     board_case None e = omega arith
     board_case (Some b) e = low b (All-nth P bs server b e all)
 
-pub boards_within : (list : List Mark) (server : ℕ) → IsTold list → board_of (state_of list) server ≤ len_of list
-boards_within list server told = board_low (IsBoardAt told.opened (len_of list)) (len_of list) (state_of list).boards server (λ b is. is.1) told.boards
+pub boards_within : (list : List Occurrence) (server : ℕ) → IsHubHistory list → board_of (state_after list) server ≤ len_of list
+boards_within list server told = board_low (IsBoardAt told.opened (len_of list)) (len_of list) (state_after list).boards server (λ b is. is.1) told.boards
 
 -- ---- a begun program
 
 -- what a pass has seen before a client began, its log and boards
-pub begun_live : (script : Workload) (seen list now : List Mark) (client snap : ℕ) (r : Roll) → IsTold seen → IsPrefix seen list → now ≡ list ++ Happened (Begin client) [] ∷ [] → IsTold now → setting_of now ≡ script_setting script
+pub begun_live : (script : Workload) (seen list now : List Occurrence) (client snap : ℕ) (r : Roll) → IsHubHistory seen → IsPrefix seen list → now ≡ list ++ Happened (Begin client) [] ∷ [] → IsHubHistory now → setting_in now ≡ script_setting script
     → snap ≡ board_at client list → IsRollerOf list snap r → AreLive script now snap r.rolled.tree
 begun_live script seen list now client snap r told p e told' same board is =
     let o = told.opened in
-    let past : List Mark = told.told.past ++ p.0 in
-    let begins : list ≡ Opened o ∷ past = sym p.1 ∙ ap (λ (l : List Mark). l ++ p.0) told.told.begins in
-    let state : state_of now ≡ _ = ap state_of e ∙ opened_on list o past (Happened (Begin client) [] ∷ []) begins in
+    let past : List Occurrence = told.told.past ++ p.0 in
+    let begins : list ≡ Opened o ∷ past = sym p.1 ∙ ap (λ (l : List Occurrence). l ++ p.0) told.told.begins in
+    let state : state_after now ≡ _ = ap state_after e ∙ opened_on list o past (Happened (Begin client) [] ∷ []) begins in
     let upto : rolled_upto r ≡ snap = roller_at list snap r is in
-    let log : (state_of now).log ≡ (state_of list).log = ap (λ (s : State). s.log) state in
-    let boards : (state_of now).boards ≡ (state_of list).boards = ap (λ (s : State). s.boards) state in
-    let low : board_at client list ≤ len_of now = subst (λ (bs : List ℕ). unwrap_or (nth bs (home_server (setting_of list) client)) 0 ≤ len_of now) boards (boards_within now (home_server (setting_of list) client) told') in
+    let log : (state_after now).log ≡ (state_after list).log = ap (λ (s : State). s.log) state in
+    let boards : (state_after now).boards ≡ (state_after list).boards = ap (λ (s : State). s.boards) state in
+    let low : board_at client list ≤ len_of now = subst (λ (bs : List ℕ). unwrap_or (nth bs (home_server (setting_in list) client)) 0 ≤ len_of now) boards (boards_within now (home_server (setting_in list) client) told') in
     let within : rolled_upto r ≤ len_of list = omega (arith, low, board, upto, ap length log) in
     let there : IsPrefix list now = (Happened (Begin client) [] ∷ [], sym e) in
     let further = roller_more list now r there within (subst (λ n. IsRollerOf list n r) (sym upto) is) in

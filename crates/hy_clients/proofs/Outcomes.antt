@@ -16,24 +16,24 @@ use Rattle.hy_base.specs.declared.report.Reply.{Reply}
 use Rattle.hy_base.specs.declared.workload.Client.{Client}
 use Rattle.hy_base.specs.declared.workload.Event.TheVariants.{Begin, Append, End, Refuse, Pad, Publish, Stop}
 use Rattle.hy_base.proofs.NthLemmas.{nth_within}
-use Rattle.hy_rules.specs.Rolling.{Roll, Stands}
+use Rattle.hy_rolling.specs.Rolling.{Roll, Stands}
 use Rattle.hy_rules.specs.Runs.{verdict_at, outcome_of}
 use Rattle.hy_rules.specs.Validation.{verdicts, verdicts_after}
 use Rattle.hy_rules.proofs.Growth.{verdict_count}
 use Rattle.hy_pipe.specs.declared.roller.Told.TheVariants.{Known, NotYet, Past}
 use Rattle.hy_pipe.specs.Telling.{told}
 use Rattle.hy_pipe.proofs.Standing.{standing_tells}
-use Rattle.hy_hub.specs.declared.mark.Mark.{Mark}
-use Rattle.hy_hub.specs.declared.mark.Mark.TheVariants.{Opened, Happened, Halted, Lifted, Landed}
-use Rattle.hy_hub.specs.Trace.{state_of}
-use Rattle.hy_hub.specs.Hub.{IsTold}
+use Rattle.hy_hub.specs.declared.mark.Occurrence.{Occurrence}
+use Rattle.hy_hub.specs.declared.mark.Occurrence.TheVariants.{Opened, Happened, Halted, Lifted, Landed}
+use Rattle.hy_hub.specs.Trace.{state_after}
+use Rattle.hy_hub.specs.Hub.{IsHubHistory}
 use Rattle.hy_hub.proofs.Passing.{log_more}
 use Rattle.hy_clients.specs.declared.answered.Answered.{Answered}
 use Rattle.hy_clients.specs.declared.answered.End as end
 use Rattle.hy_clients.specs.declared.answered.End.TheVariants.{Reading, EntryAt, FullLog}
 use Rattle.hy_clients.specs.Passing.{opened_log}
-use Rattle.hy_clients.specs.Programs.{AreServed, EndsAs, ending_of}
-use Rattle.hy_clients.specs.Replying.{known, outcome_by, reply_on}
+use Rattle.hy_clients.specs.Programs.{AreServed, EndsAs, ending_of_end}
+use Rattle.hy_clients.specs.Replying.{known_reply, outcome_by, reply_on}
 use Rattle.hy_clients.specs.Served.{AllServed, reply_by}
 use Rattle.hy_clients.proofs.Turning.{take_same}
 
@@ -43,12 +43,12 @@ no_such : {X : Type 0} (xs : List X) (n : ℕ) (o : Option X) → nth xs n ≡ o
 no_such xs n None is past = refl
 no_such xs n (Some x) is past = let w = nth_within xs n x is in let most = w.at_most in absurd (omega (arith, most, past))
 
-told_known : (vs : List (Option Verdict)) (from len pos : ℕ) → from < pos → length vs ≡ len → known (if nat_le pos from then Past from else if nat_lt len pos then NotYet len else Known (verdict_at vs pos)) ≡ verdict_at vs pos
+told_known : (vs : List (Option Verdict)) (from len pos : ℕ) → from < pos → length vs ≡ len → known_reply (if nat_le pos from then Past from else if nat_lt len pos then NotYet len else Known (verdict_at vs pos)) ≡ verdict_at vs pos
 told_known vs from len pos past size =
     let low : nat_le pos from ≡ false = grind (arith, nat_tests) in
-    ap (λ (b : Bool). known (if b then Past from else if nat_lt len pos then NotYet len else Known (verdict_at vs pos))) low ∙ by_end (nat_lt len pos) refl
+    ap (λ (b : Bool). known_reply (if b then Past from else if nat_lt len pos then NotYet len else Known (verdict_at vs pos))) low ∙ by_end (nat_lt len pos) refl
   where
-    by_end : (b : Bool) → nat_lt len pos ≡ b → known (if b then NotYet len else Known (verdict_at vs pos)) ≡ verdict_at vs pos
+    by_end : (b : Bool) → nat_lt len pos ≡ b → known_reply (if b then NotYet len else Known (verdict_at vs pos)) ≡ verdict_at vs pos
     by_end false e = refl
     by_end true e = let above : length vs < pos = grind (arith, nat_tests) in ap (option_and_then (λ v. v)) (no_such vs pos (nth vs pos) refl above)
 
@@ -75,10 +75,10 @@ module _ (log : List EntryKind) (r : Roll) (good : IsGoodShape r.shape) (st : St
       let groups : length log / r.shape.group ≡ r.rolled.groups = ap (λ (k : ℕ). k / r.shape.group) st.whole ∙ mul-div_cancel_left r.rolled.groups good.group.at_least in
       ap (λ (k : ℕ). length (verdicts_after r.shape log k)) groups ∙ (verdict_count r.shape log r.rolled.groups (let w = st.whole in omega (arith, w)) ∙ sym st.whole)
 
-  tells : (pos : ℕ) → r.from < pos → known (told r pos) ≡ verdict_at vs pos
-  tells pos past = ap known (standing_tells log r pos good st) ∙ told_known vs r.from (length log) pos past size
+  tells : (pos : ℕ) → r.from < pos → known_reply (told r pos) ≡ verdict_at vs pos
+  tells pos past = ap known_reply (standing_tells log r pos good st) ∙ told_known vs r.from (length log) pos past size
 
-  outcome_same : (snap : ℕ) (e : end.End) → IsPast r.from e → outcome_by r snap e ≡ outcome_of vs (record { client = 0; number = 0; snap = snap; ending = ending_of e })
+  outcome_same : (snap : ℕ) (e : end.End) → IsPast r.from e → outcome_by r snap e ≡ outcome_of vs (record { client = 0; number = 0; snap = snap; ending = ending_of_end e })
   outcome_same snap Reading past = refl
   outcome_same snap (EntryAt pos) past = ap (option_map (At pos)) (tells pos past)
   outcome_same snap FullLog past = refl
@@ -97,7 +97,7 @@ module _ (log : List EntryKind) (r : Roll) (good : IsGoodShape r.shape) (st : St
 
 -- ---- programs are appended past the log that was found
 
-past_end : (from len : ℕ) (mark : Mark) (e : end.End) → from ≤ len → EndsAs len mark e → IsPast from e
+past_end : (from len : ℕ) (mark : Occurrence) (e : end.End) → from ≤ len → EndsAs len mark e → IsPast from e
 past_end from len (Opened o) e low is = absurd is
 past_end from len (Halted at risen) e low is = absurd is
 past_end from len (Lifted batch) e low is = absurd is
@@ -111,15 +111,15 @@ past_end from len (Happened (Publish server upto) added) e low is = absurd is
 past_end from len (Happened (Stop call pattern) added) e low is = absurd is
 
 -- before each place but the first the log has all that was found
-found_before : (list : List Mark) (n : ℕ) → IsTold list → 0 < n → length (opened_log list) ≤ length (state_of (take n list)).log
+found_before : (list : List Occurrence) (n : ℕ) → IsHubHistory list → 0 < n → length (opened_log list) ≤ length (state_after (take n list)).log
 found_before list zero is some = absurd (omega (arith, some))
 found_before list (suc n) is some =
     let t = is.told in
     let p = log_more is.opened [] (Opened is.opened ∷ take n t.past) (take n t.past, refl) in
-    omega (arith, ap length p.1, length-append is.opened.found p.0, ap (λ (l : List Mark). length (opened_log l)) t.begins, ap (λ (l : List Mark). length (state_of (take (suc n) l)).log) t.begins)
+    omega (arith, ap length p.1, length-append is.opened.found p.0, ap (λ (l : List Occurrence). length (opened_log l)) t.begins, ap (λ (l : List Occurrence). length (state_after (take (suc n) l)).log) t.begins)
 
-module _ (script : Workload) (list seen : List Mark) (is : IsTold list) (p : IsPrefix seen list) (from : ℕ) (low : from ≤ length (opened_log list)) where
-  served_past : (c number : ℕ) (turns : List (ℕ × Mark)) (told : List Answered) → AreServed script c number seen turns told → ArePast from told
+module _ (script : Workload) (list seen : List Occurrence) (is : IsHubHistory list) (p : IsPrefix seen list) (from : ℕ) (low : from ≤ length (opened_log list)) where
+  served_past : (c number : ℕ) (turns : List (ℕ × Occurrence)) (told : List Answered) → AreServed script c number seen turns told → ArePast from told
   served_past c number [] [] are = tt
   served_past c number [] (t ∷ told) are = absurd are
   served_past c number (first ∷ []) [] are = absurd are
@@ -129,10 +129,10 @@ module _ (script : Workload) (list seen : List Mark) (is : IsTold list) (p : IsP
       let one = are.0 in
       let some : 0 < last.0 = (let a = one.past in let b = one.order in omega (arith, a, b)) in
       let same : take last.0 list ≡ take last.0 seen = take_same seen list last.0 p one.within in
-      let len : from ≤ length (state_of (take last.0 seen)).log = omega (arith, low, found_before list last.0 is some, ap (λ (l : List Mark). length (state_of l).log) same) in
+      let len : from ≤ length (state_after (take last.0 seen)).log = omega (arith, low, found_before list last.0 is some, ap (λ (l : List Occurrence). length (state_after l).log) same) in
       (past_end from _ last.1 t.end len one.ends_as, served_past c (number + 1) turns told are.1)
 
-pub all_past : (script : Workload) (list : List Mark) (is : IsTold list) (from : ℕ) → from ≤ length (opened_log list) → (number : ℕ) (clients : List Client) (all : List (List Answered)) → AllServed script list number clients all → AllPast from all
+pub all_past : (script : Workload) (list : List Occurrence) (is : IsHubHistory list) (from : ℕ) → from ≤ length (opened_log list) → (number : ℕ) (clients : List Client) (all : List (List Answered)) → AllServed script list number clients all → AllPast from all
 all_past script list is from low number [] [] served = tt
 all_past script list is from low number [] (told ∷ all) served = absurd served
 all_past script list is from low number (c ∷ clients) [] served = absurd served

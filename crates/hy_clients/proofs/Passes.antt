@@ -15,15 +15,15 @@ use Rattle.hy_base.specs.declared.workload.Program.{Program}
 use Rattle.hy_hist.specs.Passes.{Lock, Known}
 use Rattle.hy_rules.specs.Moves.{Setting, home_server}
 use Rattle.hy_rules.specs.Runs.{setting_of as script_setting, program_of}
-use Rattle.hy_hub.specs.declared.mark.Mark.{Mark}
-use Rattle.hy_hub.specs.Trace.{setting_of}
+use Rattle.hy_hub.specs.declared.mark.Occurrence.{Occurrence}
+use Rattle.hy_hub.specs.Trace.{setting_in}
 use Rattle.hy_hub.specs.Calls.{OneTurn, OwnTurn, IsIdle, IsEntryOf, is_declared_client}
 use Rattle.hy_base.proofs.NthLemmas.{nth_map, nth_within, All-nth}
 use Rattle.hy_clients.specs.Passing.{IsRunPass}
-use Rattle.hy_clients.specs.Serving.{IsClient}
+use Rattle.hy_clients.specs.Serving.{IsServedClient}
 
 -- a turn leaves a pass of the run one
-pub runs_on : (lock : Lock) (script : Workload) (all : ℕ) (old new : Known Mark) (does : List Mark → List Mark → Type 0) → OneTurn all old new does → setting_of new.seen ≡ setting_of old.seen → IsIdle lock new → IsRunPass lock script old
+pub runs_on : (lock : Lock) (script : Workload) (all : ℕ) (old new : Known Occurrence) (does : List Occurrence → List Occurrence → Type 0) → OneTurn all old new does → setting_in new.seen ≡ setting_in old.seen → IsIdle lock new → IsRunPass lock script old
     → IsRunPass lock script new
 runs_on lock script all old new does turn same idle run = record {
   idle = idle;
@@ -32,7 +32,7 @@ runs_on lock script all old new does turn same idle run = record {
 }
 
 -- so does a call of several holds
-pub own_runs_on : (lock : Lock) (script : Workload) (old new : Known Mark) (does : List Mark → List Mark → Type 0) → OwnTurn old new does → setting_of new.seen ≡ setting_of old.seen → IsIdle lock new → IsRunPass lock script old → IsRunPass lock script new
+pub own_runs_on : (lock : Lock) (script : Workload) (old new : Known Occurrence) (does : List Occurrence → List Occurrence → Type 0) → OwnTurn old new does → setting_in new.seen ≡ setting_in old.seen → IsIdle lock new → IsRunPass lock script old → IsRunPass lock script new
 own_runs_on lock script old new does turn same idle run = record {
   idle = idle;
   told = turn.told;
@@ -41,16 +41,16 @@ own_runs_on lock script old new does turn same idle run = record {
 
 -- ---- what is declared
 
-module _ (lock : Lock) (script : Workload) (pass : Known Mark) (run : IsRunPass lock script pass) where
+module _ (lock : Lock) (script : Workload) (pass : Known Occurrence) (run : IsRunPass lock script pass) where
   pub client_declared : (client : ℕ) → IsWithin 1 (length script.clients) client → is_declared_client client pass.seen
   client_declared client within =
-      let count : length (setting_of pass.seen).homes ≡ length script.clients = ap (λ (w : Setting). length w.homes) run.setting_is ∙ length-map script.clients (λ (c : Client). record { server = c.server; programs = length c.programs }) in
+      let count : length (setting_in pass.seen).homes ≡ length script.clients = ap (λ (w : Setting). length w.homes) run.setting_is ∙ length-map script.clients (λ (c : Client). record { server = c.server; programs = length c.programs }) in
       subst (λ n. IsWithin 1 n client) (sym count) within
 
-  pub server_declared : (server : ℕ) → IsWithin 1 script.servers server → IsWithin 1 (setting_of pass.seen).servers server
+  pub server_declared : (server : ℕ) → IsWithin 1 script.servers server → IsWithin 1 (setting_in pass.seen).servers server
   server_declared server within = subst (λ (w : Setting). IsWithin 1 w.servers server) (sym run.setting_is) within
 
-module _ (script : Workload) (client server : ℕ) (own : IsClient script client server) where
+module _ (script : Workload) (client server : ℕ) (own : IsServedClient script client server) where
   pub client_within : IsWithin 1 (length script.clients) client
   client_within = nth_within script.clients client own.client own.is
 
@@ -75,7 +75,7 @@ module _ (script : Workload) (client server : ℕ) (own : IsClient script client
       let there : nth own.client.programs number ≡ Some program = sym (ap (option_and_then (λ (c : Client). nth c.programs number)) own.is) ∙ e in
       All-nth IsProgram own.client.programs number program there good_client.programs
 
-  pub entry_is_own : (lock : Lock) (pass : Known Mark) (i : Intention) → IsRunPass lock script pass → i.client ≡ client → i.server ≡ server → IsEntryOf client pass.seen (Txn i)
+  pub entry_is_own : (lock : Lock) (pass : Known Occurrence) (i : Intention) → IsRunPass lock script pass → i.client ≡ client → i.server ≡ server → IsEntryOf client pass.seen (Txn i)
   entry_is_own lock pass i run c s = (c, s ∙ (sym home_is ∙ ap (λ (w : Setting). home_server w client) (sym run.setting_is)))
 
 -- the client's program at a place, counted from 0

@@ -12,14 +12,14 @@ use Rattle.hy_base.specs.Lists.{nth}
 use Rattle.hy_base.specs.Script.{Workload}
 use Rattle.hy_rules.specs.Moves.{State, after, board_of, home_server, begun_at, enabled}
 use Rattle.hy_rules.specs.Runs.{Ended, setting_of as script_setting, suits, added as entries, ended_by}
-use Rattle.hy_hub.specs.declared.mark.Mark.{Mark}
-use Rattle.hy_hub.specs.declared.mark.Mark.TheVariants.{Happened}
-use Rattle.hy_hub.specs.Trace.{state_of, setting_of}
+use Rattle.hy_hub.specs.declared.mark.Occurrence.{Occurrence}
+use Rattle.hy_hub.specs.declared.mark.Occurrence.TheVariants.{Happened}
+use Rattle.hy_hub.specs.Trace.{state_after, setting_in}
 use Rattle.hy_hub.specs.Calls.{board_at}
 use Rattle.hy_clients.specs.declared.answered.Answered.{Answered}
 use Rattle.hy_clients.specs.Passing.{OpensStanding}
 use Rattle.hy_clients.specs.Programs.{AreServed, IsServed, EndsProgram, EndsAs, effects_on, answers_given}
-use Rattle.hy_clients.specs.Served.{ended_of}
+use Rattle.hy_clients.specs.Served.{ended_program}
 use Rattle.hy_clients.proofs.Sessions.{nth_changed, is_idle}
 use Rattle.hy_clients.proofs.Steady.{IsSteady}
 use Rattle.hy_clients.proofs.Answering.{AreAnswered, answer_grows}
@@ -29,29 +29,29 @@ abbrev pub Fits : Workload → State → Event → List EntryKind → Type 0
 Fits script s event added = (suits script s event ≡ true) × (added ≡ entries script s event)
 
 -- the list up to a place leads to this state, and its first roller stood
-pub record IsAt (script : Workload) (list : List Mark) (k : ℕ) (s : State) : Type 0 where
-  pub state : state_of (take k list) ≡ s
-  pub setting : setting_of (take k list) ≡ script_setting script
+pub record IsAt (script : Workload) (list : List Occurrence) (k : ℕ) (s : State) : Type 0 where
+  pub state : state_after (take k list) ≡ s
+  pub setting : setting_in (take k list) ≡ script_setting script
   pub stood : OpensStanding list
 
 -- the next turn ends the program of this number, which was begun on this snapshot
-abbrev pub Works : Workload → ℕ → ℕ → List Mark → ℕ → List (ℕ × Mark) → List Answered → Type 0
+abbrev pub Works : Workload → ℕ → ℕ → List Occurrence → ℕ → List (ℕ × Occurrence) → List Answered → Type 0
 Works script c number list snap [] told = ⊥
 Works script c number list snap (last ∷ turns) [] = ⊥
-Works script c number list snap (last ∷ turns) (t ∷ told) = (first : ℕ × Mark) × (t.snap ≡ snap) × IsServed script c number list first last t × AreServed script c (number + 1) list turns told
+Works script c number list snap (last ∷ turns) (t ∷ told) = (first : ℕ × Occurrence) × (t.snap ≡ snap) × IsServed script c number list first last t × AreServed script c (number + 1) list turns told
 
 -- the turns to come, by the client's phase
-abbrev pub Goes : Workload → ℕ → ℕ → List Mark → Phase → List (ℕ × Mark) → List Answered → Type 0
+abbrev pub Goes : Workload → ℕ → ℕ → List Occurrence → Phase → List (ℕ × Occurrence) → List Answered → Type 0
 Goes script c number list Idle turns told = AreServed script c number list turns told
 Goes script c number list (Begun snap) turns told = Works script c number list snap turns told
 
 -- the ends of the client's programs from this number on
 abbrev pub ends_of : ℕ → ℕ → List Answered → List Ended
 ends_of c number [] = []
-ends_of c number (t ∷ told) = ended_of c number t ∷ ends_of c (number + 1) told
+ends_of c number (t ∷ told) = ended_program c number t ∷ ends_of c (number + 1) told
 
 -- A turn of a client fits the script, and leads on to its next ones.
-pub record IsTurn (script : Workload) (c : ℕ) (list : List Mark) (s : State) (event : Event) (added : List EntryKind) (x : Session) (turns : List (ℕ × Mark)) (told : List Answered) : Type 0 where
+pub record IsTurn (script : Workload) (c : ℕ) (list : List Occurrence) (s : State) (event : Event) (added : List EntryKind) (x : Session) (turns : List (ℕ × Occurrence)) (told : List Answered) : Type 0 where
   pub fits : Fits script s event added
   pub next : Session
   pub at : nth (after (script_setting script) s event added).sessions c ≡ Some next
@@ -63,16 +63,16 @@ pub record IsTurn (script : Workload) (c : ℕ) (list : List Mark) (s : State) (
 
 -- ---- a program begins
 
-begins : (script : Workload) (c number : ℕ) (list : List Mark) (turn : ℕ × Mark) (turns : List (ℕ × Mark)) (told : List Answered) (board : ℕ) → board ≡ board_at c (take turn.0 list) → AreServed script c number list (turn ∷ turns) told → Works script c number list board turns told
+begins : (script : Workload) (c number : ℕ) (list : List Occurrence) (turn : ℕ × Occurrence) (turns : List (ℕ × Occurrence)) (told : List Answered) (board : ℕ) → board ≡ board_at c (take turn.0 list) → AreServed script c number list (turn ∷ turns) told → Works script c number list board turns told
 begins script c number list turn [] told board is are = absurd are
 begins script c number list turn (last ∷ turns) [] board is are = absurd are
 begins script c number list turn (last ∷ turns) (t ∷ told) board is are = (turn, are.0.snap ∙ sym is, are.0, are.1)
 
-pub begin_turn : (script : Workload) (c : ℕ) (list : List Mark) (k : ℕ) (s : State) (added : List EntryKind) (x : Session) (turns : List (ℕ × Mark)) (told : List Answered) → IsAt script list k s → IsSteady s
+pub begin_turn : (script : Workload) (c : ℕ) (list : List Occurrence) (k : ℕ) (s : State) (added : List EntryKind) (x : Session) (turns : List (ℕ × Occurrence)) (told : List Answered) → IsAt script list k s → IsSteady s
     → enabled (script_setting script) s (Begin c) ≡ true → added ≡ [] → nth s.sessions c ≡ Some x → Goes script c x.next list x.phase ((k, Happened (Begin c) added) ∷ turns) told → IsTurn script c list s (Begin c) added x turns told
 begin_turn script c list k s added x turns told here steady can none at goes =
     let w = script_setting script in
-    let turn : ℕ × Mark = (k, Happened (Begin c) added) in
+    let turn : ℕ × Occurrence = (k, Happened (Begin c) added) in
     let are : AreServed script c x.next list (turn ∷ turns) told = subst (λ (p : Phase). Goes script c x.next list p (turn ∷ turns) told) (is_idle w s c x can at) goes in
     let board : ℕ = board_of s (home_server w c) in
     let is : board ≡ board_at c (take k list) = λ i. board_of (sym here.state i) (home_server (sym here.setting i) c) in record {
@@ -89,7 +89,7 @@ begin_turn script c list k s added x turns told here steady can none at goes =
 -- ---- a program ends
 
 -- what the turn that ends a program says of it
-pub record Closes (script : Workload) (c number : ℕ) (s : State) (snap : ℕ) (list : List Mark) (mark : Mark) (turns : List (ℕ × Mark)) (told : List Answered) : Type 0 where
+pub record Closes (script : Workload) (c number : ℕ) (s : State) (snap : ℕ) (list : List Occurrence) (mark : Occurrence) (turns : List (ℕ × Occurrence)) (told : List Answered) : Type 0 where
   pub t : Answered
   pub left : List Answered
   pub told_is : told ≡ t ∷ left
@@ -99,7 +99,7 @@ pub record Closes (script : Workload) (c number : ℕ) (s : State) (snap : ℕ) 
   pub answers : t.answers ≡ answers_given script s.log c number t.snap
   pub rest : AreServed script c (number + 1) list turns left
 
-pub closing : (script : Workload) (c number : ℕ) (s : State) (snap : ℕ) (list : List Mark) (k : ℕ) (mark : Mark) (turns : List (ℕ × Mark)) (told : List Answered) → IsAt script list k s → Works script c number list snap ((k, mark) ∷ turns) told → Closes script c number s snap list mark turns told
+pub closing : (script : Workload) (c number : ℕ) (s : State) (snap : ℕ) (list : List Occurrence) (k : ℕ) (mark : Occurrence) (turns : List (ℕ × Occurrence)) (told : List Answered) → IsAt script list k s → Works script c number list snap ((k, mark) ∷ turns) told → Closes script c number s snap list mark turns told
 closing script c number s snap list k mark turns [] here works = absurd works
 closing script c number s snap list k mark turns (t ∷ left) here works =
     let is : IsServed script c number list works.0 (k, mark) t = works.2 in
@@ -114,19 +114,19 @@ closing script c number s snap list k mark turns (t ∷ left) here works =
       rest = works.3;
     }
 
-pub close_turn : (script : Workload) (c : ℕ) (list : List Mark) (s : State) (event : Event) (added : List EntryKind) (x : Session) (snap : ℕ) (mark : Mark) (turns : List (ℕ × Mark)) (told : List Answered) (new : Session)
+pub close_turn : (script : Workload) (c : ℕ) (list : List Occurrence) (s : State) (event : Event) (added : List EntryKind) (x : Session) (snap : ℕ) (mark : Occurrence) (turns : List (ℕ × Occurrence)) (told : List Answered) (new : Session)
     → Closes script c x.next s snap list mark turns told → Fits script s event added → nth (after (script_setting script) s event added).sessions c ≡ Some new → new.next ≡ suc x.next → new.phase ≡ Idle → snap ≤ length s.log
-    → ((t : Answered) → t.snap ≡ snap → EndsAs (length s.log) mark t.end → ended_by s event ≡ ended_of c x.next t ∷ []) → IsTurn script c list s event added x turns told
+    → ((t : Answered) → t.snap ≡ snap → EndsAs (length s.log) mark t.end → ended_by s event ≡ ended_program c x.next t ∷ []) → IsTurn script c list s event added x turns told
 close_turn script c list s event added x snap mark turns told new cl fits at next idle within ended =
     let up : x.next + 1 ≡ new.next = omega (arith, next) in
-    let here : ended_by s event ≡ ended_of c x.next cl.t ∷ [] = ended cl.t cl.snap_is cl.ends_as in record {
+    let here : ended_by s event ≡ ended_program c x.next cl.t ∷ [] = ended cl.t cl.snap_is cl.ends_as in record {
       fits = fits;
       next = new;
       at = at;
       left = cl.left;
       goes = subst (λ (p : Phase). Goes script c new.next list p turns cl.left) (sym idle) (subst (λ (n : ℕ). AreServed script c n list turns cl.left) up cl.rest);
       within = λ q e. absurd (cc (idle, e));
-      ends = ap (λ (l : List Ended). l ++ ends_of c new.next cl.left) here ∙ (ap (λ (n : ℕ). ended_of c x.next cl.t ∷ ends_of c n cl.left) (sym up) ∙ ap (ends_of c x.next) (sym cl.told_is));
+      ends = ap (λ (l : List Ended). l ++ ends_of c new.next cl.left) here ∙ (ap (λ (n : ℕ). ended_program c x.next cl.t ∷ ends_of c n cl.left) (sym up) ∙ ap (ends_of c x.next) (sym cl.told_is));
       answers = λ log p all. subst (λ (l : List Answered). AreAnswered script log c x.next l) (sym cl.told_is)
           (cl.answers ∙ answer_grows script s.log log c x.next cl.t.snap p (omega (arith, within, cl.snap_is)), subst (λ (n : ℕ). AreAnswered script log c n cl.left) (sym up) all);
     }

@@ -14,15 +14,15 @@ use Rattle.hy_base.specs.Script.{Workload}
 use Rattle.hy_rules.specs.Moves.{State, after, opening}
 use Rattle.hy_rules.specs.Runs.{Ended, setting_of as script_setting, ended_by, ended_in, outcome_of, answers_to, reply_of, replies_to}
 use Rattle.hy_rules.specs.Validation.{verdicts}
-use Rattle.hy_hub.specs.declared.mark.Mark.{Mark}
-use Rattle.hy_hub.specs.declared.mark.Mark.TheVariants.{Opened, Happened, Halted, Lifted, Landed}
-use Rattle.hy_hub.specs.Trace.{AreMoves, state_of}
-use Rattle.hy_hub.specs.Calls.{events_of}
+use Rattle.hy_hub.specs.declared.mark.Occurrence.{Occurrence}
+use Rattle.hy_hub.specs.declared.mark.Occurrence.TheVariants.{Opened, Happened, Halted, Lifted, Landed}
+use Rattle.hy_hub.specs.Trace.{AreMoves, state_after}
+use Rattle.hy_hub.specs.Calls.{events_in_list}
 use Rattle.hy_clients.specs.declared.answered.Answered.{Answered}
 use Rattle.hy_clients.specs.declared.answered.End as end
 use Rattle.hy_clients.specs.declared.answered.End.TheVariants.{Reading, EntryAt, FullLog}
-use Rattle.hy_clients.specs.Programs.{ending_of, answers_given}
-use Rattle.hy_clients.specs.Served.{AllServed, RepliesAreTold, ended_of, reply_by}
+use Rattle.hy_clients.specs.Programs.{ending_of_end, answers_given}
+use Rattle.hy_clients.specs.Served.{AllServed, RepliesAreTold, ended_program, reply_by}
 use Rattle.hy_clients.proofs.Answering.{AreAnswered}
 use Rattle.hy_clients.proofs.Endings.{endings, is_end_of}
 use Rattle.hy_clients.proofs.Progress.{ends_of}
@@ -31,14 +31,14 @@ use Rattle.hy_clients.proofs.RunLaw.{client_told, moves_are, state_is, walked, f
 
 -- ---- the ends of the run are those of the list
 
-ends_are : (script : Workload) (s : State) (marks : List Mark) → AreMoves (script_setting script) s marks → AreFit script s marks → ended_in script s (events_of marks) ≡ endings script s marks
+ends_are : (script : Workload) (s : State) (marks : List Occurrence) → AreMoves (script_setting script) s marks → AreFit script s marks → ended_in script s (events_in_list marks) ≡ endings script s marks
 ends_are script s [] all fit = refl
 ends_are script s (Opened o ∷ marks) all fit = absurd all
 ends_are script s (Halted at risen ∷ marks) all fit = ends_are script s marks all fit
 ends_are script s (Lifted batch ∷ marks) all fit = ends_are script s marks all fit
 ends_are script s (Landed ∷ marks) all fit = ends_are script s marks all fit
 ends_are script s (Happened event added ∷ marks) all fit =
-    ap (λ (o : Option State). ended_by s event ++ option_map_or (λ next. ended_in script next (events_of marks)) o []) (step_is script s event added all.0.may_happen fit.0)
+    ap (λ (o : Option State). ended_by s event ++ option_map_or (λ next. ended_in script next (events_in_list marks)) o []) (step_is script s event added all.0.may_happen fit.0)
     ∙ ap (λ (l : List Ended). ended_by s event ++ l) (ends_are script (after (script_setting script) s event added) marks all.2 fit.1)
 
 -- ---- the first item that passes two tests
@@ -54,19 +54,19 @@ module _ {X : Type 0} (p q : X → Bool) where
 
 -- ---- the reply to a program
 
-outcome_same : (vs : List (Option Verdict)) (c number snap : ℕ) (e : end.End) → outcome_of vs (record { client = c; number = number; snap = snap; ending = ending_of e }) ≡ outcome_of vs (record { client = 0; number = 0; snap = snap; ending = ending_of e })
+outcome_same : (vs : List (Option Verdict)) (c number snap : ℕ) (e : end.End) → outcome_of vs (record { client = c; number = number; snap = snap; ending = ending_of_end e }) ≡ outcome_of vs (record { client = 0; number = 0; snap = snap; ending = ending_of_end e })
 outcome_same vs c number snap Reading = refl
 outcome_same vs c number snap (EntryAt pos) = refl
 outcome_same vs c number snap FullLog = refl
 
-answers_same : (script : Workload) (log : List EntryKind) (c number snap : ℕ) (e : end.End) → answers_to script log (record { client = c; number = number; snap = snap; ending = ending_of e }) ≡ answers_given script log c number snap
+answers_same : (script : Workload) (log : List EntryKind) (c number snap : ℕ) (e : end.End) → answers_to script log (record { client = c; number = number; snap = snap; ending = ending_of_end e }) ≡ answers_given script log c number snap
 answers_same script log c number snap Reading = refl
 answers_same script log c number snap (EntryAt pos) = refl
 answers_same script log c number snap FullLog = refl
 
-reply_same : (script : Workload) (log : List EntryKind) (vs : List (Option Verdict)) (c number : ℕ) (t : Answered) → t.answers ≡ answers_given script log c number t.snap → reply_of script log vs (ended_of c number t) ≡ reply_by vs t
+reply_same : (script : Workload) (log : List EntryKind) (vs : List (Option Verdict)) (c number : ℕ) (t : Answered) → t.answers ≡ answers_given script log c number t.snap → reply_of script log vs (ended_program c number t) ≡ reply_by vs t
 reply_same script log vs c number t is =
-    let same : answers_to script log (ended_of c number t) ≡ t.answers = answers_same script log c number t.snap t.end ∙ sym is in
+    let same : answers_to script log (ended_program c number t) ≡ t.answers = answers_same script log c number t.snap t.end ∙ sym is in
     (λ i. option_map (λ (outcome : Outcome). let r : Reply = record { answers = same i; outcome = outcome } in r) (outcome_same vs c number t.snap t.end i))
 
 -- the program of a number, among the ends of a client
@@ -82,11 +82,11 @@ module _ (script : Workload) (log : List EntryKind) (vs : List (Option Verdict))
   replies_same number (t ∷ told) [] size all look = absurd (omega (arith, size))
   replies_same number (t ∷ told) (p ∷ programs) size all look =
       let own : (number == number) ≡ true = eq-eqb number number refl in
-      let found : find (λ (e : Ended). (e.client == c) && (e.number == number)) done ≡ Some (ended_of c number t) = look number (omega arith) ∙ ap (λ b. cond b (Some (ended_of c number t)) (find (λ (e : Ended). e.number == number) (ends_of c (number + 1) told))) own in
+      let found : find (λ (e : Ended). (e.client == c) && (e.number == number)) done ≡ Some (ended_program c number t) = look number (omega arith) ∙ ap (λ b. cond b (Some (ended_program c number t)) (find (λ (e : Ended). e.number == number) (ends_of c (number + 1) told))) own in
       let here : reply_at number ≡ reply_by vs t = ap (option_and_then (reply_of script log vs)) found ∙ reply_same script log vs c number t all.0 in
       let rest = replies_same (number + 1) told programs (omega (arith, size)) all.1 (λ m more.
       let other : (number == m) ≡ false = ne_eqb number m (λ e. omega (arith, more, e)) in
-      look m (omega (arith, more)) ∙ ap (λ b. cond b (Some (ended_of c number t)) (find (λ (e : Ended). e.number == m) (ends_of c (number + 1) told))) other) in
+      look m (omega (arith, more)) ∙ ap (λ b. cond b (Some (ended_program c number t)) (find (λ (e : Ended). e.number == m) (ends_of c (number + 1) told))) other) in
       (λ i. cons_option (here i) (rest i))
 
 -- ---- all clients
@@ -103,7 +103,7 @@ each_reply f g number (c ∷ clients) (t ∷ told) size each =
     let rest = each_reply f g (number + 1) clients told (omega (arith, size)) (λ k client n e h. each (suc k) client n (omega (arith, e)) h) in
     (λ i. here i ∷ rest i)
 
-as_many : (script : Workload) (list : List Mark) (number : ℕ) (clients : List Client) (told : List (List Answered)) → AllServed script list number clients told → length told ≡ length clients
+as_many : (script : Workload) (list : List Occurrence) (number : ℕ) (clients : List Client) (told : List (List Answered)) → AllServed script list number clients told → length told ≡ length clients
 as_many script list number [] [] all = refl
 as_many script list number [] (t ∷ told) all = absurd all
 as_many script list number (c ∷ clients) [] all = absurd all
@@ -113,10 +113,10 @@ pub replies_law : RepliesAreTold
 replies_law script list told script_is is same all stood =
     let w = script_setting script in
     let start : State = opening w is.opened.found in
-    let log : List EntryKind = (state_of list).log in
+    let log : List EntryKind = (state_after list).log in
     let vs : List (Option Verdict) = verdicts script.shape log (length log) in
-    let done : List Ended = ended_in script start (events_of list) in
-    let done_is : done ≡ endings script start is.told.past = ap (λ (l : List Mark). ended_in script start (events_of l)) is.told.begins ∙ ends_are script start is.told.past (moves_are script list is same) (fit_is script list told is same all stood) in
+    let done : List Ended = ended_in script start (events_in_list list) in
+    let done_is : done ≡ endings script start is.told.past = ap (λ (l : List Occurrence). ended_in script start (events_in_list l)) is.told.begins ∙ ends_are script start is.told.past (moves_are script list is same) (fit_is script list told is same all stood) in
     each_reply (λ p. replies_to script log done p.0 p.1) (filter_map (reply_by vs)) 1 script.clients told (as_many script list 1 script.clients told all) (λ k client n e h.
     let number : suc k ≡ n = omega (arith, e) in
     let by = client_told script list told all (suc k) client h in

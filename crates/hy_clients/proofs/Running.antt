@@ -15,10 +15,10 @@ use Rattle.hy_base.specs.Lists.{nth}
 use Rattle.hy_base.specs.Script.{Workload}
 use Rattle.hy_rules.specs.Moves.{Setting, State, Moves, after, enabled, is_begun, client_passes}
 use Rattle.hy_rules.specs.Runs.{setting_of as script_setting, suits, added as entries, step, run, is_done}
-use Rattle.hy_hub.specs.declared.mark.Mark.{Mark}
-use Rattle.hy_hub.specs.declared.mark.Mark.TheVariants.{Opened, Happened, Halted, Lifted, Landed}
+use Rattle.hy_hub.specs.declared.mark.Occurrence.{Occurrence}
+use Rattle.hy_hub.specs.declared.mark.Occurrence.TheVariants.{Opened, Happened, Halted, Lifted, Landed}
 use Rattle.hy_hub.specs.Trace.{is_stop, led, AreMoves}
-use Rattle.hy_hub.specs.Calls.{events_of}
+use Rattle.hy_hub.specs.Calls.{events_in_list}
 use Rattle.hy_base.proofs.NthLemmas.{left_of, both}
 use Rattle.hy_clients.specs.Finished.{LeadTo}
 use Rattle.hy_clients.proofs.Sessions.{known_client}
@@ -26,7 +26,7 @@ use Rattle.hy_clients.proofs.Progress.{Fits}
 use Rattle.hy_clients.proofs.Walk.{AreFitOf}
 
 -- each event fits the script, from this state on
-abbrev pub AreFit : Workload → State → List Mark → Type 0
+abbrev pub AreFit : Workload → State → List Occurrence → Type 0
 AreFit script s [] = ⊤
 AreFit script s (Opened o ∷ marks) = AreFit script s marks
 AreFit script s (Happened event added ∷ marks) = Fits script s event added × AreFit script (after (script_setting script) s event added) marks
@@ -39,17 +39,17 @@ step_is script s event added can fits =
     ap (λ b. if b then Some (after (script_setting script) s event (entries script s event)) else None) (both (enabled (script_setting script) s event) (suits script s event) can fits.0)
     ∙ ap (λ (l : List EntryKind). Some (after (script_setting script) s event l)) (sym fits.1)
 
-pub runs : (script : Workload) (s : State) (marks : List Mark) → AreMoves (script_setting script) s marks → AreFit script s marks → run script s (events_of marks) ≡ Some (led (script_setting script) s marks)
+pub runs : (script : Workload) (s : State) (marks : List Occurrence) → AreMoves (script_setting script) s marks → AreFit script s marks → run script s (events_in_list marks) ≡ Some (led (script_setting script) s marks)
 runs script s [] all fit = refl
 runs script s (Opened o ∷ marks) all fit = absurd all
 runs script s (Halted at risen ∷ marks) all fit = runs script s marks all fit
 runs script s (Lifted batch ∷ marks) all fit = runs script s marks all fit
 runs script s (Landed ∷ marks) all fit = runs script s marks all fit
 runs script s (Happened event added ∷ marks) all fit =
-    ap (option_and_then (λ next. run script next (events_of marks))) (step_is script s event added all.0.may_happen fit.0)
+    ap (option_and_then (λ next. run script next (events_in_list marks))) (step_is script s event added all.0.may_happen fit.0)
     ∙ runs script (after (script_setting script) s event added) marks all.2 fit.1
 
-pub no_stops : (w : Setting) (s : State) (marks : List Mark) → AreMoves w s marks → list_any is_stop (events_of marks) ≡ false
+pub no_stops : (w : Setting) (s : State) (marks : List Occurrence) → AreMoves w s marks → list_any is_stop (events_in_list marks) ≡ false
 no_stops w s [] all = refl
 no_stops w s (Opened o ∷ marks) all = absurd all
 no_stops w s (Halted at risen ∷ marks) all = no_stops w s marks all
@@ -58,7 +58,7 @@ no_stops w s (Landed ∷ marks) all = no_stops w s marks all
 no_stops w s (Happened event added ∷ marks) all = rw all.1 (no_stops w (after w s event added) marks all.2)
 
 -- each event is a move
-pub moves : (w : Setting) (s : State) (marks : List Mark) → AreMoves w s marks → LeadTo w s (events_of marks) (led w s marks)
+pub moves : (w : Setting) (s : State) (marks : List Occurrence) → AreMoves w s marks → LeadTo w s (events_in_list marks) (led w s marks)
 moves w s [] all = refl
 moves w s (Opened o ∷ marks) all = absurd all
 moves w s (Halted at risen ∷ marks) all = moves w s marks all
@@ -80,10 +80,10 @@ declared script s d test can =
     let k = known_client (nth (script_setting script).homes d) (nth s.sessions d) test can in
     nth_unmapped (λ (c : Client). let h : Home = record { server = c.server; programs = length c.programs } in h) script.clients d k.0 k.2
 
-abbrev EachFits : Workload → State → List Mark → Type 0
+abbrev EachFits : Workload → State → List Occurrence → Type 0
 EachFits script s marks = (c : ℕ) (client : Client) → nth script.clients c ≡ Some client → AreFitOf script c s marks
 
-fits_here : (script : Workload) (s : State) (event : Event) (added : List EntryKind) (marks : List Mark) → Moves (script_setting script) s event added (after (script_setting script) s event added) → is_stop event ≡ false
+fits_here : (script : Workload) (s : State) (event : Event) (added : List EntryKind) (marks : List Occurrence) → Moves (script_setting script) s event added (after (script_setting script) s event added) → is_stop event ≡ false
     → EachFits script s (Happened event added ∷ marks) → Fits script s event added
 fits_here script s (Begin d) added marks move n each = (refl, move.may_add)
 fits_here script s (Append d) added marks move n each = let k = declared script s d (λ home session. is_begun session.phase) (left_of _ _ move.may_happen) in (each d k.0 k.1).0 (eq-eqb d d refl)
@@ -93,7 +93,7 @@ fits_here script s (Pad server) added marks move n each = (refl, move.may_add)
 fits_here script s (Publish server upto) added marks move n each = (refl, move.may_add)
 fits_here script s (Stop call pattern) added marks move n each = absurd (cc n)
 
-pub all_fit : (script : Workload) (s : State) (marks : List Mark) → AreMoves (script_setting script) s marks → EachFits script s marks → AreFit script s marks
+pub all_fit : (script : Workload) (s : State) (marks : List Occurrence) → AreMoves (script_setting script) s marks → EachFits script s marks → AreFit script s marks
 all_fit script s [] all each = tt
 all_fit script s (Opened o ∷ marks) all each = absurd all
 all_fit script s (Halted at risen ∷ marks) all each = all_fit script s marks all (λ c client e. each c client e)

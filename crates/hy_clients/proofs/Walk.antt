@@ -14,9 +14,9 @@ use Rattle.hy_base.specs.Script.{Workload}
 use Rattle.hy_rules.specs.Moves.{Setting, State, Moves, opening, after}
 use Rattle.hy_rules.specs.Runs.{setting_of as script_setting, ended_by}
 use Rattle.hy_hub.specs.Origin.{Origin}
-use Rattle.hy_hub.specs.declared.mark.Mark.{Mark}
-use Rattle.hy_hub.specs.declared.mark.Mark.TheVariants.{Opened, Happened, Halted, Lifted, Landed}
-use Rattle.hy_hub.specs.Trace.{is_stop, setting, led, AreMoves, state_of, setting_of}
+use Rattle.hy_hub.specs.declared.mark.Occurrence.{Occurrence}
+use Rattle.hy_hub.specs.declared.mark.Occurrence.TheVariants.{Opened, Happened, Halted, Lifted, Landed}
+use Rattle.hy_hub.specs.Trace.{is_stop, setting, led, AreMoves, state_after, setting_in}
 use Rattle.hy_hub.specs.Turns.{is_event_of}
 use Rattle.hy_hub.proofs.Told.{led_more}
 use Rattle.hy_clients.specs.declared.answered.Answered.{Answered}
@@ -30,7 +30,7 @@ use Rattle.hy_clients.proofs.Endings.{endings, is_end_of, others_end, own_ends}
 use Rattle.hy_clients.proofs.Fitting.{own_turn}
 
 -- each event of the client fits the script, from this state on
-abbrev pub AreFitOf : Workload → ℕ → State → List Mark → Type 0
+abbrev pub AreFitOf : Workload → ℕ → State → List Occurrence → Type 0
 AreFitOf script c s [] = ⊤
 AreFitOf script c s (Opened o ∷ marks) = AreFitOf script c s marks
 AreFitOf script c s (Happened event added ∷ marks) = (is_event_of c event ≡ true → Fits script s event added) × AreFitOf script c (after (script_setting script) s event added) marks
@@ -39,12 +39,12 @@ AreFitOf script c s (Lifted batch ∷ marks) = AreFitOf script c s marks
 AreFitOf script c s (Landed ∷ marks) = AreFitOf script c s marks
 
 -- what the walk comes to
-pub record IsWalked (script : Workload) (c : ℕ) (s : State) (marks : List Mark) (x : Session) (told : List Answered) : Type 0 where
+pub record IsWalked (script : Workload) (c : ℕ) (s : State) (marks : List Occurrence) (x : Session) (told : List Answered) : Type 0 where
   pub fits : AreFitOf script c s marks
   pub ended : filter (is_end_of c) (endings script s marks) ≡ ends_of c x.next told
   pub answers : AreAnswered script (led (script_setting script) s marks).log c x.next told
 
-none_left : (script : Workload) (c number : ℕ) (list : List Mark) (p : Phase) (told : List Answered) → Goes script c number list p [] told → told ≡ []
+none_left : (script : Workload) (c number : ℕ) (list : List Occurrence) (p : Phase) (told : List Answered) → Goes script c number list p [] told → told ≡ []
 none_left script c number list Idle [] goes = refl
 none_left script c number list Idle (t ∷ told) goes = absurd goes
 none_left script c number list (Begun snap) told goes = absurd goes
@@ -53,7 +53,7 @@ longer : (s : State) (w : Setting) (event : Event) (added : List EntryKind) (sna
 longer s w event added snap calm within = let p = log_after w s event added calm in omega (arith, within, ap length p.1, length-append s.log p.0)
 
 -- one mark, and the walk behind it
-module _ (script : Workload) (c : ℕ) (list : List Mark) (k : ℕ) (s : State) (event : Event) (added : List EntryKind) (marks : List Mark) (x : Session) (told : List Answered)
+module _ (script : Workload) (c : ℕ) (list : List Occurrence) (k : ℕ) (s : State) (event : Event) (added : List EntryKind) (marks : List Occurrence) (x : Session) (told : List Answered)
     (here : IsAt script list k s) (steady : IsSteady s) (move : Moves (script_setting script) s event added (after (script_setting script) s event added)) (n : is_stop event ≡ false)
     (at : nth s.sessions c ≡ Some x) (within : (snap : ℕ) → x.phase ≡ Begun snap → snap ≤ length s.log) (grows : IsPrefix s.log (led (script_setting script) (after (script_setting script) s event added) marks).log)
     (later : (y : Session) (left : List Answered) → nth (after (script_setting script) s event added).sessions c ≡ Some y → ((snap : ℕ) → y.phase ≡ Begun snap → snap ≤ length (after (script_setting script) s event added).log)
@@ -77,15 +77,15 @@ module _ (script : Workload) (c : ℕ) (list : List Mark) (k : ℕ) (s : State) 
         answers = t.answers (led w (after w s event added) marks).log grows rest.answers;
       }
 
-is_at : (script : Workload) (o : Origin) (list front rest : List Mark) (k : ℕ) (s : State) → setting o ≡ script_setting script → list ≡ Opened o ∷ (front ++ rest) → suc (length front) ≡ k → led (setting o) (opening (setting o) o.found) front ≡ s → OpensStanding list → IsAt script list k s
+is_at : (script : Workload) (o : Origin) (list front rest : List Occurrence) (k : ℕ) (s : State) → setting o ≡ script_setting script → list ≡ Opened o ∷ (front ++ rest) → suc (length front) ≡ k → led (setting o) (opening (setting o) o.found) front ≡ s → OpensStanding list → IsAt script list k s
 is_at script o list front rest k s w is place leads stood =
-    let front_is : take k list ≡ Opened o ∷ front = ap (λ n. take n list) (sym place) ∙ (ap (take (suc (length front))) is ∙ ap (λ (l : List Mark). Opened o ∷ l) (take-append_seam front rest)) in record {
-      state = subst (λ (l : List Mark). state_of l ≡ s) (sym front_is) leads;
-      setting = subst (λ (l : List Mark). setting_of l ≡ script_setting script) (sym front_is) w;
+    let front_is : take k list ≡ Opened o ∷ front = ap (λ n. take n list) (sym place) ∙ (ap (take (suc (length front))) is ∙ ap (λ (l : List Occurrence). Opened o ∷ l) (take-append_seam front rest)) in record {
+      state = subst (λ (l : List Occurrence). state_after l ≡ s) (sym front_is) leads;
+      setting = subst (λ (l : List Occurrence). setting_in l ≡ script_setting script) (sym front_is) w;
       stood = stood;
     }
 
-pub walk : (script : Workload) (c : ℕ) (o : Origin) (list front marks : List Mark) (k : ℕ) (s : State) (x : Session) (told : List Answered) → OpensStanding list → setting o ≡ script_setting script
+pub walk : (script : Workload) (c : ℕ) (o : Origin) (list front marks : List Occurrence) (k : ℕ) (s : State) (x : Session) (told : List Answered) → OpensStanding list → setting o ≡ script_setting script
     → list ≡ Opened o ∷ (front ++ marks) → suc (length front) ≡ k → led (setting o) (opening (setting o) o.found) front ≡ s → AreMoves (script_setting script) s marks → IsSteady s → nth s.sessions c ≡ Some x
     → ((snap : ℕ) → x.phase ≡ Begun snap → snap ≤ length s.log) → Goes script c x.next list x.phase (own_from c k marks) told → IsWalked script c s marks x told
 walk script c o list front [] k s x told stood w is place leads all steady at within goes =
@@ -96,21 +96,21 @@ walk script c o list front [] k s x told stood w is place leads all steady at wi
     }
 walk script c o list front (Opened o' ∷ marks) k s x told stood w is place leads all steady at within goes = absurd all
 walk script c o list front (Halted h risen ∷ marks) k s x told stood w is place leads all steady at within goes =
-    let rest = walk script c o list (front ++ Halted h risen ∷ []) marks (suc k) s x told stood w (is ∙ ap (λ (l : List Mark). Opened o ∷ l) (sym (append_assoc front (Halted h risen ∷ []) marks))) (omega (arith, place, length-append front (Halted h risen ∷ [])))
+    let rest = walk script c o list (front ++ Halted h risen ∷ []) marks (suc k) s x told stood w (is ∙ ap (λ (l : List Occurrence). Opened o ∷ l) (sym (append_assoc front (Halted h risen ∷ []) marks))) (omega (arith, place, length-append front (Halted h risen ∷ [])))
     (led_more (setting o) (opening (setting o) o.found) front (Halted h risen ∷ []) ∙ leads) all steady at within goes in
     record { fits = rest.fits; ended = rest.ended; answers = rest.answers }
 walk script c o list front (Lifted batch ∷ marks) k s x told stood w is place leads all steady at within goes =
-    let rest = walk script c o list (front ++ Lifted batch ∷ []) marks (suc k) s x told stood w (is ∙ ap (λ (l : List Mark). Opened o ∷ l) (sym (append_assoc front (Lifted batch ∷ []) marks))) (omega (arith, place, length-append front (Lifted batch ∷ [])))
+    let rest = walk script c o list (front ++ Lifted batch ∷ []) marks (suc k) s x told stood w (is ∙ ap (λ (l : List Occurrence). Opened o ∷ l) (sym (append_assoc front (Lifted batch ∷ []) marks))) (omega (arith, place, length-append front (Lifted batch ∷ [])))
     (led_more (setting o) (opening (setting o) o.found) front (Lifted batch ∷ []) ∙ leads) all steady at within goes in
     record { fits = rest.fits; ended = rest.ended; answers = rest.answers }
 walk script c o list front (Landed ∷ marks) k s x told stood w is place leads all steady at within goes =
-    let rest = walk script c o list (front ++ Landed ∷ []) marks (suc k) s x told stood w (is ∙ ap (λ (l : List Mark). Opened o ∷ l) (sym (append_assoc front (Landed ∷ []) marks))) (omega (arith, place, length-append front (Landed ∷ [])))
+    let rest = walk script c o list (front ++ Landed ∷ []) marks (suc k) s x told stood w (is ∙ ap (λ (l : List Occurrence). Opened o ∷ l) (sym (append_assoc front (Landed ∷ []) marks))) (omega (arith, place, length-append front (Landed ∷ [])))
     (led_more (setting o) (opening (setting o) o.found) front (Landed ∷ []) ∙ leads) all steady at within goes in
     record { fits = rest.fits; ended = rest.ended; answers = rest.answers }
 walk script c o list front (Happened event added ∷ marks) k s x told stood w is place leads all steady at within goes =
     let next : State = after (script_setting script) s event added in
     let leads_on : led (setting o) (opening (setting o) o.found) (front ++ Happened event added ∷ []) ≡ next = led_more (setting o) (opening (setting o) o.found) front (Happened event added ∷ []) ∙ (λ i. after (w i) (leads i) event added) in
     one_mark script c list k s event added marks x told (is_at script o list front (Happened event added ∷ marks) k s w is place leads stood) steady all.0 all.1 at within (log_led (script_setting script) s (Happened event added ∷ marks) all steady.calm)
-    (λ y left at' within' goes'. walk script c o list (front ++ Happened event added ∷ []) marks (suc k) next y left stood w (is ∙ ap (λ (l : List Mark). Opened o ∷ l) (sym (append_assoc front (Happened event added ∷ []) marks)))
+    (λ y left at' within' goes'. walk script c o list (front ++ Happened event added ∷ []) marks (suc k) next y left stood w (is ∙ ap (λ (l : List Occurrence). Opened o ∷ l) (sym (append_assoc front (Happened event added ∷ []) marks)))
     (omega (arith, place, length-append front (Happened event added ∷ []))) leads_on all.2 (stays_steady (script_setting script) s event added all.0.may_happen all.1 steady) at' within' goes')
     (is_event_of c event) refl goes

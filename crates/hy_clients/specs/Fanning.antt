@@ -4,7 +4,7 @@ use Rattle.hy_base.specs.declared.workload.Client.{Client}
 use Rattle.hy_base.specs.Lists.{nth}
 use Rattle.hy_base.specs.Script.{Workload}
 use Rattle.hy_hist.specs.Passes.{Lock, Known}
-use Rattle.hy_hub.specs.declared.mark.Mark.{Mark}
+use Rattle.hy_hub.specs.declared.mark.Occurrence.{Occurrence}
 use Rattle.hy_hub.specs.Laws.{EventsAreTasks}
 use Rattle.hy_clients.specs.declared.answered.Answered.{Answered}
 use Rattle.hy_clients.specs.Programs.{AreServed}
@@ -13,7 +13,7 @@ use Rattle.hy_clients.specs.Passing.{IsRunPass, own_turns}
 -- what a task knows and tells: its client's number, its pass, and what its client was told; and whether all of its client's programs have ended
 pub record TaskView : Type 0 where
   pub client : ℕ
-  pub pass : Known Mark
+  pub pass : Known Occurrence
   pub told : List Answered
   pub whole : Bool
 

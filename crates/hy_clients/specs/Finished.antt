@@ -9,12 +9,12 @@ use Rattle.hy_base.specs.declared.workload.Event.{Event}
 use Rattle.hy_base.specs.declared.layout.Shape.{Shape}
 use Rattle.hy_base.specs.Script.{Workload}
 use Rattle.hy_disk.specs.Content.{Content, Image}
-use Rattle.hy_log.specs.View.{View, HoldsUpTo}
-use Rattle.hy_rules.specs.EntryFormat.{spelling}
+use Rattle.hy_log.specs.View.{LogView, HoldsUpTo}
+use Rattle.hy_formats.specs.EntryFormat.{spelling}
 use Rattle.hy_rules.specs.Moves.{Setting, State, Moves, after}
-use Rattle.hy_rules.specs.Rolling.{Roll, rolled_upto, Stands}
+use Rattle.hy_rolling.specs.Rolling.{Roll, rolled_upto, Stands}
 use Rattle.hy_rules.specs.Runs.{setting_of, opening_of, run, is_finished, ended_in, results_at}
-use Rattle.hy_hub.specs.Entries.{IsSound}
+use Rattle.hy_hub.specs.Entries.{IsSoundLog}
 use Rattle.hy_hub.specs.Trace.{is_stop}
 
 -- Each event may happen in its turn, and adds entries that it may add; so they lead from a state to another. What the appended entries hold is left open.
@@ -30,9 +30,9 @@ pub record AreAtEnd (shape : Shape) (servers : ℕ) (s : State) (boards : List R
   pub whole : All (λ r. rolled_upto r ≡ length s.log) boards
 
 -- a log that runs, and has just these entries. They are lawful, and each is read again from its spelling.
-pub record IsLogOf {D : Type 0} (tells : Bool) (shape : Shape) (entries : List EntryKind) (log : View D) : Type 0 where
+pub record IsLogOf {D : Type 0} (tells : Bool) (shape : Shape) (entries : List EntryKind) (log : LogView D) : Type 0 where
   pub lawful : IsLawful shape entries
-  pub sound : AllByRecursion IsSound entries
+  pub sound : AllByRecursion IsSoundLog entries
   pub log_shape : log.shape ≡ shape
   pub running : log.stopped ≡ None
   pub count : length log.bodies ≡ length entries
@@ -45,7 +45,7 @@ pub record IsToldRun (script : Workload) (found : List EntryKind) (events : List
   pub stand : All (λ r. Stands end.log r) boards
 
 -- The log that was found goes on by no stop to a state in which all is done. Where the first roller stood for the entries that it had rolled, it is a run of the script, and all that is told of it is true.
-pub record IsFinished {D : Type 0} (tells : Bool) (script : Workload) (found : List EntryKind) (start : Roll) (events : List Event) (replies : List (List Reply)) (boards : List Roll) (log : View D) : Type 0 where
+pub record IsFinished {D : Type 0} (tells : Bool) (script : Workload) (found : List EntryKind) (start : Roll) (events : List Event) (replies : List (List Reply)) (boards : List Roll) (log : LogView D) : Type 0 where
   pub end : State
   pub moves : LeadTo (setting_of script) (opening_of script found) events end
   pub calm : list_any is_stop events ≡ false
@@ -57,19 +57,19 @@ pub record IsFinished {D : Type 0} (tells : Bool) (script : Workload) (found : L
 
 -- A batch of entries at which a device failed. They are lawful behind the log's, and each is read again from its spelling.
 -- A crash leaves the log's bodies, or these and those of the whole batch.
-pub record IsTornBehind {D : Type 0} (content : D → Content) (shape : Shape) (entries : List EntryKind) (log : View D) : Type 0 where
+pub record IsTornBehind {D : Type 0} (content : D → Content) (shape : Shape) (entries : List EntryKind) (log : LogView D) : Type 0 where
   pub batch : List EntryKind
   pub lawful : IsLawful shape (entries ++ batch)
-  pub sound : AllByRecursion IsSound batch
+  pub sound : AllByRecursion IsSoundLog batch
   pub left : (image : List ℕ) → Image (content log.disk) image → HoldsUpTo shape log.bodies (map spelling batch) image
 
 -- What is left of a log where the clients could not go on: the entries found and some of theirs, all lawful, and each read again from its spelling.
 -- A crash leaves these, or, where the device failed, these and the batch at which it failed.
-pub record IsCutShort {D : Type 0} (tells : Bool) (content : D → Content) (shape : Shape) (found : List EntryKind) (log : View D) : Type 0 where
+pub record IsCutShort {D : Type 0} (tells : Bool) (content : D → Content) (shape : Shape) (found : List EntryKind) (log : LogView D) : Type 0 where
   pub entries : List EntryKind
   pub begins : IsPrefix found entries
   pub lawful : IsLawful shape entries
-  pub sound : AllByRecursion IsSound entries
+  pub sound : AllByRecursion IsSoundLog entries
   pub log_shape : log.shape ≡ shape
   pub bodies : IsTrue tells → log.bodies ≡ map spelling entries
   pub torn : IsTrue tells → log.stopped ≢ None → IsTornBehind content shape entries log

@@ -4,7 +4,7 @@ use Rattle.hy_base.specs.declared.record.Verdict.{Verdict}
 use Rattle.hy_base.specs.declared.report.Outcome.{Outcome}
 use Rattle.hy_base.specs.declared.report.Outcome.TheVariants.{Read, At, Full}
 use Rattle.hy_base.specs.declared.report.Reply.{Reply}
-use Rattle.hy_rules.specs.Rolling.{Roll}
+use Rattle.hy_rolling.specs.Rolling.{Roll}
 use Rattle.hy_pipe.specs.declared.roller.Told.{Told}
 use Rattle.hy_pipe.specs.declared.roller.Told.TheVariants.{Known, NotYet, Past}
 use Rattle.hy_pipe.specs.Telling.{told}
@@ -13,15 +13,15 @@ use Rattle.hy_clients.specs.declared.answered.End as end
 use Rattle.hy_clients.specs.declared.answered.End.TheVariants.{Reading, EntryAt, FullLog}
 
 -- a verdict that is told
-abbrev pub known : Told → Option Verdict
-known (Known verdict) = verdict
-known (NotYet at) = None
-known (Past from) = None
+abbrev pub known_reply : Told → Option Verdict
+known_reply (Known verdict) = verdict
+known_reply (NotYet at) = None
+known_reply (Past from) = None
 
 -- what became of a program that ended so, by a roller
 abbrev pub outcome_by : Roll → ℕ → end.End → Option Outcome
 outcome_by r snap Reading = Some (Read snap)
-outcome_by r snap (EntryAt pos) = option_map (At pos) (known (told r pos))
+outcome_by r snap (EntryAt pos) = option_map (At pos) (known_reply (told r pos))
 outcome_by r snap FullLog = Some Full
 
 -- the reply to a program, by a roller

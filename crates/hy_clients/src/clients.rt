@@ -5,10 +5,10 @@ ghost use mathlib.Core.List.{IsPrefix};
 ghost use Rattle.hy_base.specs.Faults.{Rose};
 ghost use Rattle.hy_base.specs.Shape.{IsWithin};
 ghost use Rattle.hy_rules.specs.Runs.{setting_of as script_setting};
-ghost use Rattle.hy_hub.specs.Calls.{events_of};
+ghost use Rattle.hy_hub.specs.Calls.{events_in_list};
 ghost use Rattle.hy_hub.specs.Close.{IsClosed};
 ghost use Rattle.hy_hub.specs.Outset.{IsOutset};
-ghost use Rattle.hy_hub.specs.Trace.{setting_of, state_of};
+ghost use Rattle.hy_hub.specs.Trace.{setting_in, state_after};
 ghost use Rattle.hy_clients.specs.Passing.{IsRunPass, OpensInLog, opened_log, opened_start, opened_faults};
 ghost use Rattle.hy_clients.specs.Served.{AllServed};
 ghost use Rattle.hy_clients.specs.Finished.{IsCutShort, IsFinished};
@@ -77,11 +77,11 @@ fn finished<D: Disk>(
     told: Vec<Vec<Answered>>,
 ) -> Result<Run<D>, Broken<D>>
     requires closed { IsClosed D.tells D.content (D.faults_of closed.log.disk) closed.marks.items closed.log closed.entries.items closed.rollers.items }
-    requires setting { setting_of closed.marks.items ≡ script_setting script.now }
+    requires setting { setting_in closed.marks.items ≡ script_setting script.now }
     requires within { OpensInLog closed.marks.items }
-    requires ends { list_all (λ board. board == length (state_of closed.marks.items).log) (state_of closed.marks.items).boards ≡ true }
+    requires ends { list_all (λ board. board == length (state_after closed.marks.items).log) (state_after closed.marks.items).boards ≡ true }
     requires served { AllServed script.now closed.marks.items 1 script.now.clients (map (λ t. t.items) told.items) }
-    requires events { events ≡ events_of closed.marks.items }
+    requires events { events ≡ events_in_list closed.marks.items }
     ensures run { IfOk result (λ run. (run.log ≡ closed.log) × IsFinished D.tells script.now (opened_log closed.marks.items) (opened_start closed.marks.items) run.events run.replies run.boards run.log) }
     ensures log { IfErr result (λ broken. broken.log ≡ closed.log) }
     ensures cause { IfErr result (λ broken. broken.cause ≡ Cause.Device → closed.log.stopped ≢ None) }
@@ -128,7 +128,7 @@ fn serve_to_end<D: Disk + Send, R: Threads + Wait + Sync, G: Gate + Sync>(
     ensures parts { pass.new.parts ≡ 129 }
     ensures grown { IsPrefix pass.old.seen pass.new.seen }
     ensures served { IfOk result (λ told. AllServed script.now pass.new.seen 1 script.now.clients (map (λ t. t.items) told.items)) }
-    ensures ends { IfOk result (λ _. list_all (λ board. board == length (state_of pass.new.seen).log) (state_of pass.new.seen).boards ≡ true) }
+    ensures ends { IfOk result (λ _. list_all (λ board. board == length (state_after pass.new.seen).log) (state_after pass.new.seen).boards ≡ true) }
 {
     let told = serve_all(rt, alloc, script, hub, pass, threads, gate)?;
     bring_to_end(rt, alloc, script, hub, pass, threads, gate)?;

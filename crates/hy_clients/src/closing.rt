@@ -5,7 +5,7 @@ ghost use mathlib.Core.List.{IsPrefix};
 ghost use Rattle.hy_base.specs.Lists.{change_nth};
 ghost use Rattle.hy_base.specs.Shape.{IsWithin};
 ghost use Rattle.hy_hub.specs.Calls.{len_of};
-ghost use Rattle.hy_hub.specs.Trace.{state_of};
+ghost use Rattle.hy_hub.specs.Trace.{state_after};
 ghost use Rattle.hy_clients.specs.Passing.{IsRunPass};
 
 use crate::serving::Cut;
@@ -37,8 +37,8 @@ fn publish_end<D: Disk, R: Threads + Wait + Sync, G: Gate + Sync>(
     ensures pass { IsRunPass hub.now script.now pass.new }
     ensures parts { pass.new.parts ≡ pass.old.parts }
     ensures grown { IsPrefix pass.old.seen pass.new.seen }
-    ensures log { (state_of pass.new.seen).log ≡ (state_of pass.old.seen).log }
-    ensures ends { OnOk result ((state_of pass.new.seen).boards ≡ change_nth (λ _. len_of pass.old.seen) (state_of pass.old.seen).boards server) }
+    ensures log { (state_after pass.new.seen).log ≡ (state_after pass.old.seen).log }
+    ensures ends { OnOk result ((state_after pass.new.seen).boards ≡ change_nth (λ _. len_of pass.old.seen) (state_after pass.old.seen).boards server) }
 {
     let _ = script;
     let look = hub.look(rt, pass, server)?;
@@ -70,7 +70,7 @@ pub(crate) fn bring_to_end<D: Disk, R: Threads + Wait + Sync, G: Gate + Sync>(
     ensures pass { IsRunPass hub.now script.now pass.new }
     ensures parts { pass.new.parts ≡ pass.old.parts }
     ensures grown { IsPrefix pass.old.seen pass.new.seen }
-    ensures ends { OnOk result (list_all (λ board. board == length (state_of pass.new.seen).log) (state_of pass.new.seen).boards ≡ true) }
+    ensures ends { OnOk result (list_all (λ board. board == length (state_after pass.new.seen).log) (state_after pass.new.seen).boards ≡ true) }
 {
     let servers = script.servers();
     match hub.pad(rt, pass, 1) {

@@ -1,7 +1,7 @@
 //! The replies to the clients, by a roller of the whole log.
 ghost use Rattle.std.specs.Prelude.{◌≡◌, IfOk, map, filter_map};
 ghost use Rattle.hy_pipe.specs.Telling.{told};
-ghost use Rattle.hy_clients.specs.Replying.{known, outcome_by, reply_on};
+ghost use Rattle.hy_clients.specs.Replying.{known_reply, outcome_by, reply_on};
 
 use crate::answered::{Answered, End};
 use hy_base::{Items, Outcome, Pos, Replies, Reply, Verdict};
@@ -10,7 +10,7 @@ use std::alloc::{AllocError, Global};
 
 // The verdict of a position, by a roller. It keeps that of each position to which a client of this run appended.
 fn verdict_at(roller: &Roller, pos: Pos) -> Option<Verdict>
-    ensures { result ≡ known (told roller.now pos) }
+    ensures { result ≡ known_reply (told roller.now pos) }
 {
     match roller.verdict(pos) {
         Told::Known(verdict) => verdict,

@@ -4,11 +4,11 @@ ghost use Rattle.hy_base.specs.Lists.{nth};
 ghost use Rattle.hy_base.specs.Shape.{IsWithin};
 ghost use Rattle.hy_base.specs.declared.workload.Client.{Client};
 ghost use Rattle.hy_rules.specs.Runs.{program_of};
-ghost use Rattle.hy_rules.specs.Rolling.{rolled_upto};
+ghost use Rattle.hy_rolling.specs.Rolling.{rolled_upto};
 ghost use Rattle.hy_hub.specs.Calls.{IsEntryOf, IsRollable, IsRollerOf, len_of};
 ghost use Rattle.hy_clients.specs.Passing.{IsRunPass, GoesOn, own_turns};
 ghost use Rattle.hy_clients.specs.Programs.{AreServed};
-ghost use Rattle.hy_clients.specs.Serving.{AreLive, Begins, Ends, EndsBy, EndsReading, IsClient, IsOwnEnd, Serves, Takes};
+ghost use Rattle.hy_clients.specs.Serving.{AreLive, Begins, EndsProgram, EndsBy, EndsReading, IsServedClient, IsOwnEnd, Serves, Takes};
 
 use crate::answered::{Answered, End};
 use hy_base::{Client, Entry, Pos, Program, Script};
@@ -16,7 +16,8 @@ use hy_disk::Disk;
 use hy_exec::{Executed, Finished, run_program};
 use hy_hist::Pass;
 use hy_hub::{
-    AppendRefusal, BeginRefusal, Begun, Contents, EndRefusal, Hub, Look, PadRefusal, PublishRefusal,
+    AppendRefusal, Backlog, BeginRefusal, Begun, Contents, EndRefusal, Hub, PadRefusal,
+    PublishRefusal,
 };
 use hy_pipe::{Gate, Roller};
 use std::alloc::{AllocError, AllocFailed, Global};
@@ -69,7 +70,7 @@ fn look_on<D: Disk, R: Wait>(
     hub: &Hub<D>,
     pass: &mut Pass<Contents<D>>,
     server: u8,
-) -> Result<Look, AllocError>
+) -> Result<Backlog, AllocError>
     requires pass { IsRunPass hub.now script.now pass.old }
     requires server { IsWithin 1 script.now.servers server }
     ensures pass { IsRunPass hub.now script.now pass.new }
@@ -273,13 +274,13 @@ fn run_once<D: Disk, R: Wait>(
     begun: &Begun,
 ) -> Result<Option<Answered>, Cut>
     requires pass { IsRunPass hub.now script.now pass.old }
-    requires client { IsClient script.now client server }
+    requires client { IsServedClient script.now client server }
     requires program { program_of script.now client number ≡ Some program.now }
     requires rows { AreLive script.now pass.old.seen begun.now.snap begun.now.roller.rolled.tree }
     ensures pass { IsRunPass hub.now script.now pass.new }
     ensures parts { pass.new.parts ≡ pass.old.parts }
     ensures snap { (told : _) → result ≡ Ok (Some told) → told.snap ≡ begun.now.snap }
-    ensures ended { (told : _) → result ≡ Ok (Some told) → Ends script.now client number pass.old pass.new told }
+    ensures ended { (told : _) → result ≡ Ok (Some told) → EndsProgram script.now client number pass.old pass.new told }
     ensures not { result ≡ Ok None → GoesOn client pass.old pass.new [] }
 {
     let _ = number;
@@ -306,13 +307,13 @@ fn finish_program<D: Disk, R: Wait>(
     begun: &Begun,
 ) -> Result<Answered, Cut>
     requires pass { IsRunPass hub.now script.now pass.old }
-    requires client { IsClient script.now client server }
+    requires client { IsServedClient script.now client server }
     requires program { program_of script.now client number ≡ Some program.now }
     requires rows { AreLive script.now pass.old.seen begun.now.snap begun.now.roller.rolled.tree }
     ensures pass { IsRunPass hub.now script.now pass.new }
     ensures parts { pass.new.parts ≡ pass.old.parts }
     ensures snap { IfOk result (λ told. told.snap ≡ begun.now.snap) }
-    ensures ended { IfOk result (Ends script.now client number pass.old pass.new) }
+    ensures ended { IfOk result (EndsProgram script.now client number pass.old pass.new) }
 {
     for _ in rt.forever() {
         let told = run_once(
@@ -340,7 +341,7 @@ fn serve_program<D: Disk, R: Threads + Wait + Sync, G: Gate + Sync>(
     gate: &G,
 ) -> Result<Answered, Cut>
     requires pass { IsRunPass hub.now script.now pass.old }
-    requires client { IsClient script.now client server }
+    requires client { IsServedClient script.now client server }
     requires program { program_of script.now client number ≡ Some program.now }
     requires threads { IsWithin 1 16 threads }
     ensures pass { IsRunPass hub.now script.now pass.new }
@@ -369,7 +370,7 @@ fn serve_next<D: Disk, R: Threads + Wait + Sync, G: Gate + Sync>(
     gate: &G,
 ) -> Result<(), Cut>
     requires pass { IsRunPass hub.now script.now pass.old }
-    requires client { IsClient script.now client server }
+    requires client { IsServedClient script.now client server }
     requires number { number ≡ length told.old.items + 1 }
     requires program { program_of script.now client number ≡ Some program.now }
     requires served { AreServed script.now client 1 pass.old.seen (own_turns client pass.old) told.old.items }
@@ -390,7 +391,7 @@ fn serve_next<D: Disk, R: Threads + Wait + Sync, G: Gate + Sync>(
 fn client_of(script: &Script, number: u8) -> &Client
     requires { IsWithin 1 (length script.now.clients) number }
     ensures is { nth script.now.clients number ≡ Some result.now }
-    ensures own { IsClient script.now number result.now.server }
+    ensures own { IsServedClient script.now number result.now.server }
 {
     let clients = script.clients();
     &clients[number as usize - 1]

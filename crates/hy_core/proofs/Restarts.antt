@@ -8,7 +8,7 @@ use Rattle.hy_base.specs.declared.record.EntryKind.{EntryKind}
 use Rattle.hy_base.specs.declared.record.EntryKind.TheVariants.{Filler}
 use Rattle.hy_base.specs.declared.workload.Event.TheVariants.{Append, Pad}
 use Rattle.hy_base.proofs.NthLemmas.{nth_map, nth_within}
-use Rattle.hy_rules.specs.EntryFormat.{spelling}
+use Rattle.hy_formats.specs.EntryFormat.{spelling}
 use Rattle.hy_memlog.specs.Pages.{Pages, with_body}
 use Rattle.hy_base.specs.declared.workload.Client.{Client}
 use Rattle.hy_base.specs.declared.workload.Session.{Session}
@@ -19,45 +19,45 @@ use Rattle.hy_base.specs.Shape.{whole_groups}
 use Rattle.hy_base.specs.Log.{IsLawful}
 use Rattle.hy_base.specs.Lists.{nth, change_nth}
 use Rattle.hy_base.specs.Script.{Workload, IsScript, IsClient}
-use Rattle.hy_rules.specs.Rolling.{Roll, rolled_upto}
+use Rattle.hy_rolling.specs.Rolling.{Roll, rolled_upto}
 use Rattle.hy_rules.specs.Moves.{Setting, State, appended, is_kept, surviving, missing, after, is_begun, abandoned, at_next_program, restarted}
 use Rattle.hy_rules.specs.Runs.{Ended, ByStop, ByEntryAt, added, own_entry, ended, ended_by_append, setting_of, snap_of, begun_snap, lost_by_stop}
 use Rattle.hy_core.specs.declared.running.Running.{Running}
-use Rattle.hy_core.specs.declared.parts.Seat.{Seat}
+use Rattle.hy_core.specs.declared.parts.ClientState.{ClientState}
 use Rattle.hy_core.specs.declared.parts.Answered.{Answered}
 use Rattle.hy_core.specs.declared.parts.End.TheVariants.{EntryAt, Stopped}
-use Rattle.hy_core.specs.Parts.{Holding, SeatFits, IsHolding, IsOnDevice, BegunSeat, Steps, leaving, told_of, IsSeat, IsAnswered, AreSeats, AreRestarted, abandoned_seat, abandoned_told, all_abandoned, departed, kept_by, pages_with, state_of, done_of, ended_of}
+use Rattle.hy_core.specs.Parts.{Holding, ClientStateFits, IsHolding, IsOnDevice, BegunClientState, StepsTo, leaving, told_in_course, IsClientState, IsStepAnswered, AreClientStates, AreRestarted, abandoned_client_state, abandoned_told, all_abandoned, departed, kept_by, pages_with, state_in_course, done_of, ended_in_course}
 use Rattle.hy_core.specs.Replies.{HasFewPrograms}
-use Rattle.hy_core.proofs.Leaving.{left_seat, all_push, still_whole, begun_of, told_is, done_is, ended_is, sessions_are}
-use Rattle.hy_core.proofs.SeatLemmas.{seat_changes}
+use Rattle.hy_core.proofs.Leaving.{left_client_state, all_push, still_whole, begun_of, told_is, done_is, ended_is, sessions_are}
+use Rattle.hy_core.proofs.ClientStateLemmas.{client_state_changes}
 use Rattle.hy_core.proofs.Begun.{IsBegun}
-use Rattle.hy_core.proofs.LogGrowth.{seats_grow, told_grow, stored_after}
+use Rattle.hy_core.proofs.LogGrowth.{client_states_grow, told_grow, stored_after}
 
--- ---- the seats
+-- ---- the client_states
 
-abandoned_by : (phase : Phase) (b : Bool) (x : Seat) → is_begun phase ≡ b → x.session.phase ≡ phase → (abandoned_seat x).session ≡ abandoned x.session
+abandoned_by : (phase : Phase) (b : Bool) (x : ClientState) → is_begun phase ≡ b → x.session.phase ≡ phase → (abandoned_client_state x).session ≡ abandoned x.session
 abandoned_by Idle b x is phase = rw phase refl
 abandoned_by (Begun snap) b x is phase = rw phase (λ i. record { next = add-one x.session.next i; phase = Idle; last = x.session.last })
 
-abandoned_session : (x : Seat) → (abandoned_seat x).session ≡ abandoned x.session
+abandoned_session : (x : ClientState) → (abandoned_client_state x).session ≡ abandoned x.session
 abandoned_session x = abandoned_by x.session.phase (is_begun x.session.phase) x refl refl
 
-pub abandoned_sessions : (xs : List Seat) → map (λ (x : Seat). x.session) (map abandoned_seat xs) ≡ map abandoned (map (λ (x : Seat). x.session) xs)
+pub abandoned_sessions : (xs : List ClientState) → map (λ (x : ClientState). x.session) (map abandoned_client_state xs) ≡ map abandoned (map (λ (x : ClientState). x.session) xs)
 abandoned_sessions [] = refl
 abandoned_sessions (x ∷ xs) = λ i. abandoned_session x i ∷ abandoned_sessions xs i
 
-abandoned_is : (script : Workload) (log : List EntryKind) (number : ℕ) (c : Client) (x : Seat) (phase : Phase) → x.session.phase ≡ phase → IsSeat script log number c x → IsSeat script log number c (abandoned_seat x)
+abandoned_is : (script : Workload) (log : List EntryKind) (number : ℕ) (c : Client) (x : ClientState) (phase : Phase) → x.session.phase ≡ phase → IsClientState script log number c x → IsClientState script log number c (abandoned_client_state x)
 abandoned_is script log number c x Idle phase is =
-    subst (IsSeat script log number c) (ap (λ (p : Phase). if is_begun p then departed x.session.next x.session.last else x) (sym phase)) is
+    subst (IsClientState script log number c) (ap (λ (p : Phase). if is_begun p then departed x.session.next x.session.last else x) (sym phase)) is
 abandoned_is script log number c x (Begun snap) phase is =
-    subst (IsSeat script log number c) (ap (λ (p : Phase). if is_begun p then departed x.session.next x.session.last else x) (sym phase))
-    (left_seat script log number x.session.next x.session.last c is.first (is.begun snap phase).left)
+    subst (IsClientState script log number c) (ap (λ (p : Phase). if is_begun p then departed x.session.next x.session.last else x) (sym phase))
+    (left_client_state script log number x.session.next x.session.last c is.first (is.begun snap phase).left)
 
-pub abandoned_seats : (script : Workload) (log : List EntryKind) (number : ℕ) (cs : List Client) (xs : List Seat) → AreSeats script log number cs xs → AreSeats script log number cs (map abandoned_seat xs)
-abandoned_seats script log number [] [] are = tt
-abandoned_seats script log number [] (x ∷ xs) are = are
-abandoned_seats script log number (c ∷ cs) [] are = are
-abandoned_seats script log number (c ∷ cs) (x ∷ xs) are = (abandoned_is script log number c x x.session.phase refl are.0, abandoned_seats script log (number + 1) cs xs are.1)
+pub abandoned_client_states : (script : Workload) (log : List EntryKind) (number : ℕ) (cs : List Client) (xs : List ClientState) → AreClientStates script log number cs xs → AreClientStates script log number cs (map abandoned_client_state xs)
+abandoned_client_states script log number [] [] are = tt
+abandoned_client_states script log number [] (x ∷ xs) are = are
+abandoned_client_states script log number (c ∷ cs) [] are = are
+abandoned_client_states script log number (c ∷ cs) (x ∷ xs) are = (abandoned_is script log number c x x.session.phase refl are.0, abandoned_client_states script log (number + 1) cs xs are.1)
 
 -- ---- what is told
 
@@ -65,16 +65,16 @@ all_append : {X : Type 0} (P : X → Type 0) (xs ys : List X) → AllByRecursion
 all_append P [] ys all more = more
 all_append P (x ∷ xs) ys all more = (all.0, all_append P xs ys all.1 more)
 
-told_one : (script : Workload) (log : List EntryKind) (number : ℕ) (c : Client) (x : Seat) (phase : Phase) → x.session.phase ≡ phase → IsSeat script log number c x → AllByRecursion (IsAnswered script log) (abandoned_told number x)
+told_one : (script : Workload) (log : List EntryKind) (number : ℕ) (c : Client) (x : ClientState) (phase : Phase) → x.session.phase ≡ phase → IsClientState script log number c x → AllByRecursion (IsStepAnswered script log) (abandoned_told number x)
 told_one script log number c x Idle phase is = rw phase tt
 told_one script log number c x (Begun snap) phase is = rw phase (record { within = (is.begun snap phase).within; answers = refl }, tt)
 
-told_all : (script : Workload) (log : List EntryKind) (number : ℕ) (cs : List Client) (xs : List Seat) → AreSeats script log number cs xs → AllByRecursion (IsAnswered script log) (all_abandoned number xs)
+told_all : (script : Workload) (log : List EntryKind) (number : ℕ) (cs : List Client) (xs : List ClientState) → AreClientStates script log number cs xs → AllByRecursion (IsStepAnswered script log) (all_abandoned number xs)
 told_all script log number [] [] are = tt
 told_all script log number [] (x ∷ xs) are = absurd are
 told_all script log number (c ∷ cs) [] are = absurd are
 told_all script log number (c ∷ cs) (x ∷ xs) are =
-    all_append (IsAnswered script log) (abandoned_told number x) (all_abandoned (number + 1) xs) (told_one script log number c x x.session.phase refl are.0) (told_all script log (number + 1) cs xs are.1)
+    all_append (IsStepAnswered script log) (abandoned_told number x) (all_abandoned (number + 1) xs) (told_one script log number c x x.session.phase refl are.0) (told_all script log (number + 1) cs xs are.1)
 
 -- ---- the programs that the stop ends
 
@@ -82,12 +82,12 @@ told_all script log number (c ∷ cs) (x ∷ xs) are =
 abbrev lost_of : State → ℕ → ℕ × Session → Option Ended
 lost_of s kept p = if is_begun p.1.phase && not (p.0 == kept) then Some (record { client = p.0; number = p.1.next; snap = begun_snap s p.0; ending = ByStop }) else None
 
-lost_one : (s : State) (kept number : ℕ) (x : Seat) (phase : Phase) → (number == kept) ≡ false → x.session.phase ≡ phase → nth s.sessions number ≡ Some x.session → option_to_list (lost_of s kept (number, x.session)) ≡ map ended_of (abandoned_told number x)
+lost_one : (s : State) (kept number : ℕ) (x : ClientState) (phase : Phase) → (number == kept) ≡ false → x.session.phase ≡ phase → nth s.sessions number ≡ Some x.session → option_to_list (lost_of s kept (number, x.session)) ≡ map ended_in_course (abandoned_told number x)
 lost_one s kept number x Idle other phase here = rw phase refl
 lost_one s kept number x (Begun snap) other phase here =
     let at : begun_snap s number ≡ snap = (λ i. unwrap_or (option_and_then (λ (y : Session). snap_of y.phase) (here i)) 0) ∙ ap (λ p. unwrap_or (snap_of p) 0) phase in
     (λ i. option_to_list (if is_begun (phase i) && not (other i) then Some (record { client = number; number = x.session.next; snap = at i; ending = ByStop }) else None))
-    ∙ sym (λ i. map ended_of (option_to_list (option_map (λ k. let t : Answered = record { client = number; number = x.session.next; snap = k; end = Stopped; answers = [] } in t) (snap_of (phase i)))))
+    ∙ sym (λ i. map ended_in_course (option_to_list (option_map (λ k. let t : Answered = record { client = number; number = x.session.next; snap = k; end = Stopped; answers = [] } in t) (snap_of (phase i)))))
 
 filter_one : {X Y : Type 0} (f : X → Option Y) (x : X) (xs : List X) → filter_map f (x ∷ xs) ≡ option_to_list (f x) ++ filter_map f xs
 filter_one f x xs = by_option (f x) refl
@@ -97,22 +97,22 @@ filter_one f x xs = by_option (f x) refl
     by_option (Some y) is = rw is refl
 
 -- the session at each place from a number on
-abbrev AreFrom : State → ℕ → List Seat → Type 0
-AreFrom s number xs = (k : ℕ) (x : Seat) → nth xs (suc k) ≡ Some x → nth s.sessions (number + k) ≡ Some x.session
+abbrev AreFrom : State → ℕ → List ClientState → Type 0
+AreFrom s number xs = (k : ℕ) (x : ClientState) → nth xs (suc k) ≡ Some x → nth s.sessions (number + k) ≡ Some x.session
 
-lost_from : (s : State) (number : ℕ) (xs : List Seat) → 1 ≤ number → AreFrom s number xs → filter_map (lost_of s 0) (enumerate_from number (map (λ (x : Seat). x.session) xs)) ≡ map ended_of (all_abandoned number xs)
+lost_from : (s : State) (number : ℕ) (xs : List ClientState) → 1 ≤ number → AreFrom s number xs → filter_map (lost_of s 0) (enumerate_from number (map (λ (x : ClientState). x.session) xs)) ≡ map ended_in_course (all_abandoned number xs)
 lost_from s number [] some are = refl
 lost_from s number (x ∷ xs) some are =
     let here : nth s.sessions number ≡ Some x.session = let e : number ≡ number + 0 = omega arith in ap (nth s.sessions) e ∙ are 0 x refl in
     let later : AreFrom s (number + 1) xs = λ k y is. let e : number + 1 + k ≡ number + suc k = omega arith in ap (nth s.sessions) e ∙ are (suc k) y is in
-    filter_one (lost_of s 0) (number, x.session) (enumerate_from (number + 1) (map (λ (y : Seat). y.session) xs))
+    filter_one (lost_of s 0) (number, x.session) (enumerate_from (number + 1) (map (λ (y : ClientState). y.session) xs))
     ∙ (λ i. lost_one s 0 number x x.session.phase (grind (arith, some)) refl here i ++ lost_from s (number + 1) xs (omega arith) later i)
-    ∙ sym (map-append ended_of (abandoned_told number x) (all_abandoned (number + 1) xs))
+    ∙ sym (map-append ended_in_course (abandoned_told number x) (all_abandoned (number + 1) xs))
 
-pub lost_is : (h : Holding) → map ended_of (h.told ++ all_abandoned 1 h.seats) ≡ done_of h ++ lost_by_stop (state_of h) 0
+pub lost_is : (h : Holding) → map ended_in_course (h.told ++ all_abandoned 1 h.client_states) ≡ done_of h ++ lost_by_stop (state_in_course h) 0
 lost_is h =
-    map-append ended_of h.told (all_abandoned 1 h.seats)
-    ∙ ap (λ es. done_of h ++ es) (sym (lost_from (state_of h) 1 h.seats (omega arith) (λ k x is. let e : 1 + k ≡ suc k = omega arith in ap (nth (state_of h).sessions) e ∙ nth_map (λ (y : Seat). y.session) h.seats (suc k) x is)))
+    map-append ended_in_course h.told (all_abandoned 1 h.client_states)
+    ∙ ap (λ es. done_of h ++ es) (sym (lost_from (state_in_course h) 1 h.client_states (omega arith) (λ k x is. let e : 1 + k ≡ suc k = omega arith in ap (nth (state_in_course h).sessions) e ∙ nth_map (λ (y : ClientState). y.session) h.client_states (suc k) x is)))
 
 -- ---- the boards
 
@@ -128,7 +128,7 @@ length-map f (x ∷ xs) = ap suc (length-map f xs)
 
 -- the parts after a stop in which these entries were kept
 abbrev pub restarting : Holding → List EntryKind → Pages → List Roll → Holding
-restarting h kept pages rs = record { log = h.log ++ kept; pages = pages; rollers = rs; seats = map abandoned_seat h.seats; told = h.told ++ all_abandoned 1 h.seats; armed = None }
+restarting h kept pages rs = record { log = h.log ++ kept; pages = pages; rollers = rs; client_states = map abandoned_client_state h.client_states; told = h.told ++ all_abandoned 1 h.client_states; armed = None }
 
 pub restarts : (script : Workload) (h : Holding) (e : EntryKind) (stop : ArmedStop) (rs : List Roll) → IsHolding script h → IsLawful script.shape (h.log ++ kept_by stop e) → AreRestarted script (h.log ++ kept_by stop e) rs
     → IsHolding script (restarting h (kept_by stop e) (pages_with (Some stop) 1 e h.pages) rs)
@@ -140,27 +140,27 @@ restarts script h e stop rs is lawful boards =
       lawful = lawful;
       servers = boards.count;
       boards = boards.boards;
-      seats = abandoned_seats script (h.log ++ more) 1 script.clients h.seats (seats_grow script h.log more 1 script.clients h.seats is.seats);
-      told = all_append (IsAnswered script (h.log ++ more)) h.told (all_abandoned 1 h.seats) (told_grow script h.log more h.told is.told)
-          (told_all script (h.log ++ more) 1 script.clients h.seats (seats_grow script h.log more 1 script.clients h.seats is.seats));
+      client_states = abandoned_client_states script (h.log ++ more) 1 script.clients h.client_states (client_states_grow script h.log more 1 script.clients h.client_states is.client_states);
+      told = all_append (IsStepAnswered script (h.log ++ more)) h.told (all_abandoned 1 h.client_states) (told_grow script h.log more h.told is.told)
+          (told_all script (h.log ++ more) 1 script.clients h.client_states (client_states_grow script h.log more 1 script.clients h.client_states is.client_states));
     }
 
 -- the state is the one that the rules restart
 pub restarted_is : (script : Workload) (h : Holding) (kept : List EntryKind) (pages : Pages) (rs : List Roll) → IsHolding script h → AreRestarted script (h.log ++ kept) rs
-    → state_of (restarting h kept pages rs) ≡ restarted (setting_of script) (record (state_of h) { log = h.log ++ kept })
+    → state_in_course (restarting h kept pages rs) ≡ restarted (setting_of script) (record (state_in_course h) { log = h.log ++ kept })
 restarted_is script h kept pages rs is boards =
     let end : ℕ = whole_groups script.shape (length (h.log ++ kept)) in
-    let count : length (state_of h).boards ≡ script.servers = length-map rolled_upto h.rollers ∙ is.servers in
-    (λ i. record { log = h.log ++ kept; boards = (boards.at ∙ (ap (λ n. replicate n end) (sym count) ∙ sym (constant end (state_of h).boards))) i; sessions = abandoned_sessions h.seats i; armed = None })
+    let count : length (state_in_course h).boards ≡ script.servers = length-map rolled_upto h.rollers ∙ is.servers in
+    (λ i. record { log = h.log ++ kept; boards = (boards.at ∙ (ap (λ n. replicate n end) (sym count) ∙ sym (constant end (state_in_course h).boards))) i; sessions = abandoned_sessions h.client_states i; armed = None })
 
 -- a pad in which a stop strikes
 pub pad_restarts : (script : Workload) (h : Holding) (server : ℕ) (stop : ArmedStop) (rs : List Roll) → IsHolding script h → h.armed ≡ Some stop
     → IsLawful script.shape (h.log ++ kept_by stop (Filler server)) → AreRestarted script (h.log ++ kept_by stop (Filler server)) rs
-    → Steps script h (restarting h (kept_by stop (Filler server)) (pages_with (Some stop) 1 (Filler server) h.pages) rs) (Pad server)
+    → StepsTo script h (restarting h (kept_by stop (Filler server)) (pages_with (Some stop) 1 (Filler server) h.pages) rs) (Pad server)
 pad_restarts script h server stop rs is armed lawful boards =
     let own : EntryKind = Filler server in
     let w : Setting = setting_of script in
-    let s : State = state_of h in
+    let s : State = state_in_course h in
     record {
       holding = restarts script h own stop rs is lawful boards;
       leads = restarted_is script h (kept_by stop own) (pages_with (Some stop) 1 own h.pages) rs is boards
@@ -185,15 +185,15 @@ next_abandoned (y ∷ ys) (suc zero) begun = ap (λ z. z ∷ map abandoned ys) (
 next_abandoned (y ∷ ys) (suc (suc n)) begun = ap (λ zs. abandoned y ∷ zs) (next_abandoned ys (suc n) begun)
 
 -- An append in which a stop strikes that drops the entry.
-pub append_lost : (script : Workload) (h : Holding) (client : ℕ) (x : Seat) (e : EntryKind) (stop : ArmedStop) (rs : List Roll) → IsHolding script h → h.armed ≡ Some stop → is_kept stop ≡ false
-    → nth h.seats client ≡ Some x → is_begun x.session.phase ≡ true → IsLawful script.shape (h.log ++ kept_by stop e) → AreRestarted script (h.log ++ kept_by stop e) rs
-    → Steps script h (restarting h (kept_by stop e) (pages_with (Some stop) 1 e h.pages) rs) (Append client)
+pub append_lost : (script : Workload) (h : Holding) (client : ℕ) (x : ClientState) (e : EntryKind) (stop : ArmedStop) (rs : List Roll) → IsHolding script h → h.armed ≡ Some stop → is_kept stop ≡ false
+    → nth h.client_states client ≡ Some x → is_begun x.session.phase ≡ true → IsLawful script.shape (h.log ++ kept_by stop e) → AreRestarted script (h.log ++ kept_by stop e) rs
+    → StepsTo script h (restarting h (kept_by stop e) (pages_with (Some stop) 1 e h.pages) rs) (Append client)
 append_lost script h client x e stop rs is armed drops own begun lawful boards =
     let w : Setting = setting_of script in
-    let s : State = state_of h in
+    let s : State = state_in_course h in
     let none : kept_by stop e ≡ [] = ap (λ (b : Bool). replicate (if b then 1 else 0) e) drops in
     let no_entry : added script s (Append client) ≡ [] = (λ i. take (surviving (armed i) 1) (own_entry script s client)) ∙ ap (λ (b : Bool). take (if b then 1 else 0) (own_entry script s client)) drops in
-    let session : nth s.sessions client ≡ Some x.session = nth_map (λ (y : Seat). y.session) h.seats client x own in
+    let session : nth s.sessions client ≡ Some x.session = nth_map (λ (y : ClientState). y.session) h.client_states client x own in
     let lost : map abandoned s.sessions ≡ map abandoned (change_nth at_next_program s.sessions client) =
     next_abandoned s.sessions client (λ y here. let f : Some x.session ≡ Some y = sym session ∙ here in let same : x.session ≡ y = ap (λ o. unwrap_or o x.session) f in subst (λ (z : Session). is_begun z.phase ≡ true) same begun) in
     record {
@@ -207,11 +207,11 @@ append_lost script h client x e stop rs is armed drops own begun lawful boards =
     }
 
 -- where the session with a number is kept
-is_kept_one : (s : State) (kept number : ℕ) (x y : Seat) → (number == kept) ≡ true → y.session.phase ≡ Idle → option_to_list (lost_of s kept (number, x.session)) ≡ map ended_of (abandoned_told number y)
+is_kept_one : (s : State) (kept number : ℕ) (x y : ClientState) → (number == kept) ≡ true → y.session.phase ≡ Idle → option_to_list (lost_of s kept (number, x.session)) ≡ map ended_in_course (abandoned_told number y)
 is_kept_one s kept number x y same idle =
     (λ i. option_to_list (if is_begun x.session.phase && not (same i) then Some (record { client = number; number = x.session.next; snap = begun_snap s number; ending = ByStop }) else None))
     ∙ (never (is_begun x.session.phase) (record { client = number; number = x.session.next; snap = begun_snap s number; ending = ByStop })
-    ∙ sym (λ i. map ended_of (option_to_list (option_map (λ k. let t : Answered = record { client = number; number = y.session.next; snap = k; end = Stopped; answers = [] } in t) (snap_of (idle i))))))
+    ∙ sym (λ i. map ended_in_course (option_to_list (option_map (λ k. let t : Answered = record { client = number; number = y.session.next; snap = k; end = Stopped; answers = [] } in t) (snap_of (idle i))))))
   where
     never : (b : Bool) (e : Ended) → option_to_list (if b && false then Some e else None) ≡ []
     never true e = refl
@@ -222,50 +222,50 @@ abbrev IsPlace : ℕ → ℕ → ℕ → Type 0
 IsPlace kept number zero = kept < number
 IsPlace kept number (suc n) = kept ≡ number + n
 
-lost_changed : (s : State) (kept number : ℕ) (xs : List Seat) (n : ℕ) (y : Seat) → y.session.phase ≡ Idle → AreFrom s number xs → IsPlace kept number n
-    → filter_map (lost_of s kept) (enumerate_from number (map (λ (x : Seat). x.session) xs)) ≡ map ended_of (all_abandoned number (change_nth (λ _. y) xs n))
+lost_changed : (s : State) (kept number : ℕ) (xs : List ClientState) (n : ℕ) (y : ClientState) → y.session.phase ≡ Idle → AreFrom s number xs → IsPlace kept number n
+    → filter_map (lost_of s kept) (enumerate_from number (map (λ (x : ClientState). x.session) xs)) ≡ map ended_in_course (all_abandoned number (change_nth (λ _. y) xs n))
 lost_changed s kept number [] n y idle are place = refl
 lost_changed s kept number (x ∷ xs) zero y idle are place =
     let here : nth s.sessions number ≡ Some x.session = let e : number ≡ number + 0 = omega arith in ap (nth s.sessions) e ∙ are 0 x refl in
     let later : AreFrom s (number + 1) xs = λ k z is. let e : number + 1 + k ≡ number + suc k = omega arith in ap (nth s.sessions) e ∙ are (suc k) z is in
-    filter_one (lost_of s kept) (number, x.session) (enumerate_from (number + 1) (map (λ (z : Seat). z.session) xs))
-    ∙ (λ i. lost_one s kept number x x.session.phase (grind (arith, place)) refl here i ++ (lost_changed s kept (number + 1) xs zero y idle later (omega (arith, place)) ∙ ap (λ zs. map ended_of (all_abandoned (number + 1) zs)) (unchanged y xs)) i)
-    ∙ sym (map-append ended_of (abandoned_told number x) (all_abandoned (number + 1) xs))
+    filter_one (lost_of s kept) (number, x.session) (enumerate_from (number + 1) (map (λ (z : ClientState). z.session) xs))
+    ∙ (λ i. lost_one s kept number x x.session.phase (grind (arith, place)) refl here i ++ (lost_changed s kept (number + 1) xs zero y idle later (omega (arith, place)) ∙ ap (λ zs. map ended_in_course (all_abandoned (number + 1) zs)) (unchanged y xs)) i)
+    ∙ sym (map-append ended_in_course (abandoned_told number x) (all_abandoned (number + 1) xs))
   where
-    unchanged : (z : Seat) (zs : List Seat) → change_nth (λ _. z) zs zero ≡ zs
+    unchanged : (z : ClientState) (zs : List ClientState) → change_nth (λ _. z) zs zero ≡ zs
     unchanged z [] = refl
     unchanged z (w ∷ zs) = refl
 lost_changed s kept number (x ∷ xs) (suc zero) y idle are place =
     let later : AreFrom s (number + 1) xs = λ k z is. let e : number + 1 + k ≡ number + suc k = omega arith in ap (nth s.sessions) e ∙ are (suc k) z is in
-    filter_one (lost_of s kept) (number, x.session) (enumerate_from (number + 1) (map (λ (z : Seat). z.session) xs))
-    ∙ (λ i. is_kept_one s kept number x y (grind (arith, place)) idle i ++ (lost_changed s kept (number + 1) xs zero y idle later (omega (arith, place)) ∙ ap (λ zs. map ended_of (all_abandoned (number + 1) zs)) (unchanged y xs)) i)
-    ∙ sym (map-append ended_of (abandoned_told number y) (all_abandoned (number + 1) xs))
+    filter_one (lost_of s kept) (number, x.session) (enumerate_from (number + 1) (map (λ (z : ClientState). z.session) xs))
+    ∙ (λ i. is_kept_one s kept number x y (grind (arith, place)) idle i ++ (lost_changed s kept (number + 1) xs zero y idle later (omega (arith, place)) ∙ ap (λ zs. map ended_in_course (all_abandoned (number + 1) zs)) (unchanged y xs)) i)
+    ∙ sym (map-append ended_in_course (abandoned_told number y) (all_abandoned (number + 1) xs))
   where
-    unchanged : (z : Seat) (zs : List Seat) → change_nth (λ _. z) zs zero ≡ zs
+    unchanged : (z : ClientState) (zs : List ClientState) → change_nth (λ _. z) zs zero ≡ zs
     unchanged z [] = refl
     unchanged z (w ∷ zs) = refl
 lost_changed s kept number (x ∷ xs) (suc (suc n)) y idle are place =
     let here : nth s.sessions number ≡ Some x.session = let e : number ≡ number + 0 = omega arith in ap (nth s.sessions) e ∙ are 0 x refl in
     let later : AreFrom s (number + 1) xs = λ k z is. let e : number + 1 + k ≡ number + suc k = omega arith in ap (nth s.sessions) e ∙ are (suc k) z is in
-    filter_one (lost_of s kept) (number, x.session) (enumerate_from (number + 1) (map (λ (z : Seat). z.session) xs))
+    filter_one (lost_of s kept) (number, x.session) (enumerate_from (number + 1) (map (λ (z : ClientState). z.session) xs))
     ∙ (λ i. lost_one s kept number x x.session.phase (grind (arith, place)) refl here i ++ lost_changed s kept (number + 1) xs (suc n) y idle later (omega (arith, place)) i)
-    ∙ sym (map-append ended_of (abandoned_told number x) (all_abandoned (number + 1) (change_nth (λ _. y) xs (suc n))))
+    ∙ sym (map-append ended_in_course (abandoned_told number x) (all_abandoned (number + 1) (change_nth (λ _. y) xs (suc n))))
 
 -- an append in which a stop strikes that keeps the entry
-pub append_kept : (script : Workload) (h : Holding) (client pos snap : ℕ) (x : Seat) (run : Running) (e : EntryKind) (stop : ArmedStop) (rs : List Roll) → IsScript script → IsHolding script h → h.armed ≡ Some stop → is_kept stop ≡ true → pos ≡ length h.log + 1
-    → BegunSeat h client snap x run → own_entry script (state_of h) client ≡ e ∷ [] → IsLawful script.shape (h.log ++ kept_by stop e) → AreRestarted script (h.log ++ kept_by stop e) rs
-    → Steps script h (restarting (leaving (record h { pages = pages_with (Some stop) 1 e h.pages }) client pos snap x run e) [] (pages_with (Some stop) 1 e h.pages) rs) (Append client)
+pub append_kept : (script : Workload) (h : Holding) (client pos snap : ℕ) (x : ClientState) (run : Running) (e : EntryKind) (stop : ArmedStop) (rs : List Roll) → IsScript script → IsHolding script h → h.armed ≡ Some stop → is_kept stop ≡ true → pos ≡ length h.log + 1
+    → BegunClientState h client snap x run → own_entry script (state_in_course h) client ≡ e ∷ [] → IsLawful script.shape (h.log ++ kept_by stop e) → AreRestarted script (h.log ++ kept_by stop e) rs
+    → StepsTo script h (restarting (leaving (record h { pages = pages_with (Some stop) 1 e h.pages }) client pos snap x run e) [] (pages_with (Some stop) 1 e h.pages) rs) (Append client)
 append_kept script h client pos snap x run e stop rs script_is is armed keeps at_end b own lawful boards =
     let w : Setting = setting_of script in
-    let s : State = state_of h in
+    let s : State = state_in_course h in
     let one : kept_by stop e ≡ e ∷ [] = ap (λ (c : Bool). replicate (if c then 1 else 0) e) keeps in
     let log : List EntryKind = h.log ++ e ∷ [] in
-    let y : Seat = departed x.session.next pos in
-    let t : Answered = told_of client snap x run (EntryAt pos) in
-    let xs : List Seat = change_nth (λ _. y) h.seats client in
+    let y : ClientState = departed x.session.next pos in
+    let t : Answered = told_in_course client snap x run (EntryAt pos) in
+    let xs : List ClientState = change_nth (λ _. y) h.client_states client in
     let g : IsBegun script h client x = begun_of script h client snap x run is b in
-    let seat : IsSeat script log client g.seated.own y = left_seat script log client x.session.next pos g.seated.own g.seated.seat.first g.running.left in
-    let seats : AreSeats script log 1 script.clients xs = seat_changes script log script.clients h.seats client g.seated.own y (seats_grow script h.log (e ∷ []) 1 script.clients h.seats is.seats) g.seated.is_own seat in
+    let client_state : IsClientState script log client g.kept_client.own y = left_client_state script log client x.session.next pos g.kept_client.own g.kept_client.client_state.first g.running.left in
+    let client_states : AreClientStates script log 1 script.clients xs = client_state_changes script log script.clients h.client_states client g.kept_client.own y (client_states_grow script h.log (e ∷ []) 1 script.clients h.client_states is.client_states) g.kept_client.is_own client_state in
     let adds : added script s (Append client) ≡ e ∷ [] = (λ i. take (surviving (armed i) 1) (own i)) ∙ ap (λ (c : Bool). take (if c then 1 else 0) (e ∷ [])) keeps in
     let next : y.session ≡ appended (e ∷ []) (length h.log) x.session = (λ j. record { next = add-one x.session.next j; phase = Idle; last = at_end j }) in
     let same_log : log ++ [] ≡ log = append-nil log in
@@ -273,61 +273,61 @@ append_kept script h client pos snap x run e stop rs script_is is armed keeps at
     let end : ℕ = whole_groups script.shape (length log) in
     let count : length s.boards ≡ script.servers = length-map rolled_upto h.rollers ∙ is.servers in
     let stored : IsOnDevice script log (pages_with (Some stop) 1 e h.pages) = subst (λ (l : List EntryKind). IsOnDevice script (h.log ++ l) (pages_with (Some stop) 1 e h.pages)) one (stored_after script h.log h.pages (Some stop) 1 e is.stored) in
-    let holding : IsHolding script (record { log = log; pages = pages_with (Some stop) 1 e h.pages; rollers = rs; seats = map abandoned_seat xs; told = (h.told ++ t ∷ []) ++ all_abandoned 1 xs; armed = None }) = record {
+    let holding : IsHolding script (record { log = log; pages = pages_with (Some stop) 1 e h.pages; rollers = rs; client_states = map abandoned_client_state xs; told = (h.told ++ t ∷ []) ++ all_abandoned 1 xs; armed = None }) = record {
       stored = stored;
       armed = tt;
       lawful = subst (λ (l : List EntryKind). IsLawful script.shape (h.log ++ l)) one lawful;
       servers = restart.count;
       boards = restart.boards;
-      seats = abandoned_seats script log 1 script.clients xs seats;
-      told = all_append (IsAnswered script log) (h.told ++ t ∷ []) (all_abandoned 1 xs)
-          (told_grow script h.log (e ∷ []) (h.told ++ t ∷ []) (all_push (IsAnswered script h.log) h.told t is.told (told_is script h client snap x run (EntryAt pos) tt is b)))
-          (told_all script log 1 script.clients xs seats);
+      client_states = abandoned_client_states script log 1 script.clients xs client_states;
+      told = all_append (IsStepAnswered script log) (h.told ++ t ∷ []) (all_abandoned 1 xs)
+          (told_grow script h.log (e ∷ []) (h.told ++ t ∷ []) (all_push (IsStepAnswered script h.log) h.told t is.told (told_is script h client snap x run (EntryAt pos) tt is b)))
+          (told_all script log 1 script.clients xs client_states);
     } in
-    let steps : Steps script h (record { log = log; pages = pages_with (Some stop) 1 e h.pages; rollers = rs; seats = map abandoned_seat xs; told = (h.told ++ t ∷ []) ++ all_abandoned 1 xs; armed = None }) (Append client) = record {
+    let steps : StepsTo script h (record { log = log; pages = pages_with (Some stop) 1 e h.pages; rollers = rs; client_states = map abandoned_client_state xs; told = (h.told ++ t ∷ []) ++ all_abandoned 1 xs; armed = None }) (Append client) = record {
       holding = holding;
       leads = (λ i. record { log = log; boards = (restart.at ∙ (ap (λ n. replicate n end) (sym count) ∙ sym (constant end s.boards))) i; sessions = (abandoned_sessions xs ∙ ap (map abandoned) (sessions_are (appended (e ∷ []) (length h.log)) h client x y b.is next)) i; armed = None })
           ∙ (ap (λ (a : Option ArmedStop). option_map_or (λ k. restarted w (record s { log = log; sessions = change_nth (appended (e ∷ []) (length h.log)) s.sessions client })) a (record s { log = log; sessions = change_nth (appended (e ∷ []) (length h.log)) s.sessions client })) (sym armed)
           ∙ ap (after w s (Append client)) (sym adds));
-      ends = map-append ended_of (h.told ++ t ∷ []) (all_abandoned 1 xs)
+      ends = map-append ended_in_course (h.told ++ t ∷ []) (all_abandoned 1 xs)
           ∙ ((λ i. done_is h t i ++ lost_is_kept i)
-          ∙ (append_assoc (done_of h) (ended_of t ∷ []) (lost_by_stop s client)
+          ∙ (append_assoc (done_of h) (ended_in_course t ∷ []) (lost_by_stop s client)
           ∙ (ap (λ es. done_of h ++ (es ++ lost_by_stop s client)) (sym (ended_is h client snap x run (EntryAt pos) b) ∙ ap (λ n. ended s client (ByEntryAt n)) at_end)
           ∙ (ap (λ (c : Bool). done_of h ++ (if c then ended s client (ByEntryAt (length h.log + 1)) ++ lost_by_stop s client else lost_by_stop s 0)) (sym keeps) ∙ ap (λ (a : Option ArmedStop). done_of h ++ ended_by_append a s client) (sym armed)))));
       whole = still_whole (with_body (Some stop) 1 (spelling e)) h.pages.bodies;
     } in
-    subst (λ (l : List EntryKind). Steps script h (record { log = l; pages = pages_with (Some stop) 1 e h.pages; rollers = rs; seats = map abandoned_seat xs; told = (h.told ++ t ∷ []) ++ all_abandoned 1 xs; armed = None }) (Append client)) (sym same_log) steps
+    subst (λ (l : List EntryKind). StepsTo script h (record { log = l; pages = pages_with (Some stop) 1 e h.pages; rollers = rs; client_states = map abandoned_client_state xs; told = (h.told ++ t ∷ []) ++ all_abandoned 1 xs; armed = None }) (Append client)) (sym same_log) steps
   where
     place_is : (n : ℕ) → 1 ≤ n → IsPlace n 1 n
     place_is zero some = absurd (omega (arith, some))
     place_is (suc n) some = omega arith
 
-    lost_is_kept : map ended_of (all_abandoned 1 (change_nth (λ _. departed x.session.next pos) h.seats client)) ≡ lost_by_stop (state_of h) client
+    lost_is_kept : map ended_in_course (all_abandoned 1 (change_nth (λ _. departed x.session.next pos) h.client_states client)) ≡ lost_by_stop (state_in_course h) client
     lost_is_kept =
-        sym (lost_changed (state_of h) client 1 h.seats client (departed x.session.next pos) refl
-        (λ k z here. let e1 : 1 + k ≡ suc k = omega arith in ap (nth (state_of h).sessions) e1 ∙ nth_map (λ (z : Seat). z.session) h.seats (suc k) z here)
-        (place_is client (nth_within h.seats client x b.is).at_least))
+        sym (lost_changed (state_in_course h) client 1 h.client_states client (departed x.session.next pos) refl
+        (λ k z here. let e1 : 1 + k ≡ suc k = omega arith in ap (nth (state_in_course h).sessions) e1 ∙ nth_map (λ (z : ClientState). z.session) h.client_states (suc k) z here)
+        (place_is client (nth_within h.client_states client x b.is).at_least))
 
--- ---- what a restart asks of the seats
+-- ---- what a restart asks of the client_states
 
-seats_fit_by : (script : Workload) (log : List EntryKind) (number : ℕ) (cs : List Client) (xs : List Seat) → AreSeats script log number cs xs → AllByRecursion HasFewPrograms cs → AllByRecursion SeatFits xs
-seats_fit_by script log number [] [] are few = tt
-seats_fit_by script log number [] (x ∷ xs) are few = absurd are
-seats_fit_by script log number (c ∷ cs) [] are few = tt
-seats_fit_by script log number (c ∷ cs) (x ∷ xs) are few = (omega (arith, are.0.most, few.0), seats_fit_by script log (number + 1) cs xs are.1 few.1)
+client_states_fit_by : (script : Workload) (log : List EntryKind) (number : ℕ) (cs : List Client) (xs : List ClientState) → AreClientStates script log number cs xs → AllByRecursion HasFewPrograms cs → AllByRecursion ClientStateFits xs
+client_states_fit_by script log number [] [] are few = tt
+client_states_fit_by script log number [] (x ∷ xs) are few = absurd are
+client_states_fit_by script log number (c ∷ cs) [] are few = tt
+client_states_fit_by script log number (c ∷ cs) (x ∷ xs) are few = (omega (arith, are.0.most, few.0), client_states_fit_by script log (number + 1) cs xs are.1 few.1)
 
 few_by : (servers : ℕ) (cs : List Client) → All (IsClient servers) cs → AllByRecursion HasFewPrograms cs
 few_by servers [] all = tt
 few_by servers (c ∷ cs) all = ((all 0 c (omega arith)).count, few_by servers cs (λ k d below. all (suc k) d (omega (arith, below))))
 
-pub seats_fit : (script : Workload) (h : Holding) → IsScript script → IsHolding script h → AllByRecursion SeatFits h.seats
-seats_fit script h script_is is = seats_fit_by script h.log 1 script.clients h.seats is.seats (few_by script.servers script.clients script_is.clients)
+pub client_states_fit : (script : Workload) (h : Holding) → IsScript script → IsHolding script h → AllByRecursion ClientStateFits h.client_states
+client_states_fit script h script_is is = client_states_fit_by script h.log 1 script.clients h.client_states is.client_states (few_by script.servers script.clients script_is.clients)
 
-seats_many : (script : Workload) (log : List EntryKind) (number : ℕ) (cs : List Client) (xs : List Seat) → AreSeats script log number cs xs → length xs ≡ length cs
-seats_many script log number [] [] are = refl
-seats_many script log number [] (x ∷ xs) are = absurd are
-seats_many script log number (c ∷ cs) [] are = absurd are
-seats_many script log number (c ∷ cs) (x ∷ xs) are = ap suc (seats_many script log (number + 1) cs xs are.1)
+client_states_many : (script : Workload) (log : List EntryKind) (number : ℕ) (cs : List Client) (xs : List ClientState) → AreClientStates script log number cs xs → length xs ≡ length cs
+client_states_many script log number [] [] are = refl
+client_states_many script log number [] (x ∷ xs) are = absurd are
+client_states_many script log number (c ∷ cs) [] are = absurd are
+client_states_many script log number (c ∷ cs) (x ∷ xs) are = ap suc (client_states_many script log (number + 1) cs xs are.1)
 
-pub seats_few : (script : Workload) (h : Holding) → length script.clients ≤ 128 → IsHolding script h → length h.seats ≤ 128
-seats_few script h few is = omega (arith, few, seats_many script h.log 1 script.clients h.seats is.seats)
+pub client_states_few : (script : Workload) (h : Holding) → length script.clients ≤ 128 → IsHolding script h → length h.client_states ≤ 128
+client_states_few script h few is = omega (arith, few, client_states_many script h.log 1 script.clients h.client_states is.client_states)

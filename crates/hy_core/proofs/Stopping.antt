@@ -10,24 +10,24 @@ use Rattle.hy_base.specs.declared.workload.Event.TheVariants.{Append}
 use Rattle.hy_base.specs.Log.{IsLawful}
 use Rattle.hy_base.specs.Script.{Workload, IsScript, IsClient}
 use Rattle.hy_base.proofs.NthLemmas.{All-nth}
-use Rattle.hy_rules.specs.Rolling.{Roll}
+use Rattle.hy_rolling.specs.Rolling.{Roll}
 use Rattle.hy_rules.specs.Moves.{is_kept, is_begun}
 use Rattle.hy_rules.specs.Runs.{may_happen}
 use Rattle.hy_core.specs.declared.running.Running.{Running}
-use Rattle.hy_core.specs.declared.parts.Seat.{Seat}
-use Rattle.hy_core.specs.Parts.{Holding, SeatFits, departed, IsHolding, IsBegunAt, BegunSeat, LeavesEntry, NextFits, Leaves, HasRestarted, AreRestarted, Steps, left_entry, kept_by, struck, state_of, abandoned_seat, all_abandoned}
+use Rattle.hy_core.specs.declared.parts.ClientState.{ClientState}
+use Rattle.hy_core.specs.Parts.{Holding, ClientStateFits, departed, IsHolding, IsBegunAt, BegunClientState, LeavesEntry, NextFits, Leaves, HasRestarted, AreRestarted, StepsTo, left_entry, kept_by, struck, state_in_course, abandoned_client_state, all_abandoned}
 use Rattle.hy_core.proofs.Leaving.{LeftEntry, left_entry_is}
 use Rattle.hy_core.proofs.LogGrowth.{lawful_kept}
 use Rattle.hy_core.proofs.Ending.{begun_at, append_begun, leaves_entry, next_fits}
-use Rattle.hy_core.proofs.SeatLemmas.{SeatedAt, seated_at}
+use Rattle.hy_core.proofs.ClientStateLemmas.{KeptClientAt, kept_client_at}
 use Rattle.hy_core.proofs.Publishing.{all_change}
-use Rattle.hy_core.proofs.Restarts.{append_lost, append_kept, seats_fit}
+use Rattle.hy_core.proofs.Restarts.{append_lost, append_kept, client_states_fit}
 
 -- the entry that is appended is the one that the program leaves
 abbrev pub IsLeft : Holding → ℕ → EntryKind → Type 0
-IsLeft h client e = left_entry h.seats client ≡ Some e
+IsLeft h client e = left_entry h.client_states client ≡ Some e
 
-module _ (script : Workload) (h : Holding) (client : ℕ) (e : EntryKind) (script_is : IsScript script) (is : IsHolding script h) (may : may_happen script (state_of h) (Append client) ≡ true) (own : IsLeft h client e) where
+module _ (script : Workload) (h : Holding) (client : ℕ) (e : EntryKind) (script_is : IsScript script) (is : IsHolding script h) (may : may_happen script (state_in_course h) (Append client) ≡ true) (own : IsLeft h client e) where
   pub begun : IsBegunAt h client
   begun = begun_at script h client is (append_begun script h client may)
 
@@ -36,8 +36,8 @@ module _ (script : Workload) (h : Holding) (client : ℕ) (e : EntryKind) (scrip
 
   entry_is : begun.2.entry ≡ Some e
   entry_is =
-      let step : left_entry h.seats client ≡ begun.2.entry =
-      (λ i. option_and_then (λ (y : Seat). option_and_then (λ (r : Running). r.entry) y.running) (begun.3.is i)) ∙ ap (option_and_then (λ (r : Running). r.entry)) begun.3.running in
+      let step : left_entry h.client_states client ≡ begun.2.entry =
+      (λ i. option_and_then (λ (y : ClientState). option_and_then (λ (r : Running). r.entry) y.running) (begun.3.is i)) ∙ ap (option_and_then (λ (r : Running). r.entry)) begun.3.running in
       sym step ∙ own
 
   left : LeftEntry script h client e
@@ -48,34 +48,34 @@ module _ (script : Workload) (h : Holding) (client : ℕ) (e : EntryKind) (scrip
 
   -- the parts after the strike, what is left where it is kept, and the restart
   pub append_stops : (stop : ArmedStop) (pos : ℕ) (mid new : Holding) (rs : List Roll) → h.armed ≡ Some stop → pos ≡ length h.log + 1 → AreRestarted script (h.log ++ kept_by stop e) rs
-      → (is_kept stop ≡ true → Leaves (struck stop e h) mid client pos) → (is_kept stop ≡ false → mid ≡ struck stop e h) → HasRestarted mid new rs → Steps script h new (Append client)
+      → (is_kept stop ≡ true → Leaves (struck stop e h) mid client pos) → (is_kept stop ≡ false → mid ≡ struck stop e h) → HasRestarted mid new rs → StepsTo script h new (Append client)
   append_stops stop pos mid new rs armed at_end boards kept dropped settles = elim (cases_Bool (is_kept stop)) [
     | inl keeps ↦
-        let b : BegunSeat (struck stop e h) client begun.0 begun.1 begun.2 = record { is = begun.3.is; phase = begun.3.phase; running = begun.3.running } in
+        let b : BegunClientState (struck stop e h) client begun.0 begun.1 begun.2 = record { is = begun.3.is; phase = begun.3.phase; running = begun.3.running } in
         let mid_is = kept keeps begun.0 begun.1 begun.2 e b entry_is in
-        subst (λ n. Steps script h n (Append client)) (sym (settles.is ∙ (λ i. record { log = sym (append-nil (mid_is i).log) i; pages = (mid_is i).pages; rollers = rs; seats = map abandoned_seat (mid_is i).seats; told = (mid_is i).told ++ all_abandoned 1 (mid_is i).seats; armed = None })))
+        subst (λ n. StepsTo script h n (Append client)) (sym (settles.is ∙ (λ i. record { log = sym (append-nil (mid_is i).log) i; pages = (mid_is i).pages; rollers = rs; client_states = map abandoned_client_state (mid_is i).client_states; told = (mid_is i).told ++ all_abandoned 1 (mid_is i).client_states; armed = None })))
         (append_kept script h client pos begun.0 begun.1 begun.2 e stop rs script_is is armed keeps at_end begun.3 left.own (appends_lawful stop) boards)
     | inr drops ↦
         let none : kept_by stop e ≡ [] = ap (λ (c : Bool). replicate (if c then 1 else 0) e) drops in
         let mid_is : mid ≡ struck stop e h = dropped drops in
-        subst (λ n. Steps script h n (Append client)) (sym (settles.is ∙ (λ i. record { log = (ap (λ (k : Holding). k.log) mid_is ∙ (sym (append-nil h.log) ∙ ap (λ l. h.log ++ l) (sym none))) i; pages = (mid_is i).pages; rollers = rs; seats = map abandoned_seat (mid_is i).seats; told = (mid_is i).told ++ all_abandoned 1 (mid_is i).seats; armed = None })))
+        subst (λ n. StepsTo script h n (Append client)) (sym (settles.is ∙ (λ i. record { log = (ap (λ (k : Holding). k.log) mid_is ∙ (sym (append-nil h.log) ∙ ap (λ l. h.log ++ l) (sym none))) i; pages = (mid_is i).pages; rollers = rs; client_states = map abandoned_client_state (mid_is i).client_states; told = (mid_is i).told ++ all_abandoned 1 (mid_is i).client_states; armed = None })))
         (append_lost script h client begun.1 e stop rs is armed drops begun.3.is (ap is_begun begun.3.phase) (appends_lawful stop) boards)
   ]
 
   next_small : begun.1.session.next ≤ 10001
   next_small =
-      let found : SeatedAt script h.log script.clients client begun.1 = seated_at script h.log script.clients h.seats client begun.1 is.seats begun.3.is in
+      let found : KeptClientAt script h.log script.clients client begun.1 = kept_client_at script h.log script.clients h.client_states client begun.1 is.client_states begun.3.is in
       let client_is : IsClient script.servers found.own = All-nth (IsClient script.servers) script.clients client found.own found.is_own script_is.clients in
-      omega (arith, found.seat.most, client_is.count)
+      omega (arith, found.client_state.most, client_is.count)
 
-  -- the numbers of the seats that are left fit
-  pub left_fit : (stop : ArmedStop) (pos : ℕ) (mid : Holding) → (is_kept stop ≡ true → Leaves (struck stop e h) mid client pos) → (is_kept stop ≡ false → mid ≡ struck stop e h) → AllByRecursion SeatFits mid.seats
+  -- the numbers of the client_states that are left fit
+  pub left_fit : (stop : ArmedStop) (pos : ℕ) (mid : Holding) → (is_kept stop ≡ true → Leaves (struck stop e h) mid client pos) → (is_kept stop ≡ false → mid ≡ struck stop e h) → AllByRecursion ClientStateFits mid.client_states
   left_fit stop pos mid kept dropped = elim (cases_Bool (is_kept stop)) [
     | inl keeps ↦
-        let b : BegunSeat (struck stop e h) client begun.0 begun.1 begun.2 = record { is = begun.3.is; phase = begun.3.phase; running = begun.3.running } in
-        subst (λ (k : Holding). AllByRecursion SeatFits k.seats) (sym (kept keeps begun.0 begun.1 begun.2 e b entry_is))
-        (all_change SeatFits h.seats client (departed begun.1.session.next pos) (omega (arith, next_small)) (seats_fit script h script_is is))
-    | inr drops ↦ subst (λ (k : Holding). AllByRecursion SeatFits k.seats) (sym (dropped drops)) (seats_fit script h script_is is)
+        let b : BegunClientState (struck stop e h) client begun.0 begun.1 begun.2 = record { is = begun.3.is; phase = begun.3.phase; running = begun.3.running } in
+        subst (λ (k : Holding). AllByRecursion ClientStateFits k.client_states) (sym (kept keeps begun.0 begun.1 begun.2 e b entry_is))
+        (all_change ClientStateFits h.client_states client (departed begun.1.session.next pos) (omega (arith, next_small)) (client_states_fit script h script_is is))
+    | inr drops ↦ subst (λ (k : Holding). AllByRecursion ClientStateFits k.client_states) (sym (dropped drops)) (client_states_fit script h script_is is)
   ]
 
   pub struck_begun : (stop : ArmedStop) (k : Holding) → k ≡ struck stop e h → IsBegunAt k client

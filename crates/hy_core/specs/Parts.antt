@@ -15,16 +15,16 @@ use Rattle.hy_base.specs.Log.{IsLawful}
 use Rattle.hy_base.specs.Script.{Workload}
 use Rattle.hy_rules.specs.Validation.{live}
 use Rattle.hy_rules.specs.Exec.{Effects, exec, intention}
-use Rattle.hy_rules.specs.Rolling.{Roll, rolled_upto, Stands}
+use Rattle.hy_rolling.specs.Rolling.{Roll, rolled_upto, Stands}
 use Rattle.hy_base.specs.Shape.{is_within, whole_groups}
 use Rattle.hy_rules.specs.Moves.{State, surviving, client_passes, is_begun, fresh_session, after}
 use Rattle.hy_rules.specs.Runs.{snap_of, Ending, ByReading, ByEntryAt, ByFullLog, ByStop, Ended, answers_to, setting_of, leaves_write, added, ended_by, is_done}
-use Rattle.hy_rules.specs.EntryFormat.{spelling}
+use Rattle.hy_formats.specs.EntryFormat.{spelling}
 use Rattle.hy_memlog.specs.Pages.{Pages, IsStop, with_body, broken_log}
-use Rattle.hy_exec.specs.Running.{has_written}
+use Rattle.hy_exec.specs.Running.{notes_write}
 use Rattle.hy_core.specs.declared.running.Running.{Running}
 use Rattle.hy_core.specs.declared.parts.Parts.{Parts}
-use Rattle.hy_core.specs.declared.parts.Seat.{Seat}
+use Rattle.hy_core.specs.declared.parts.ClientState.{ClientState}
 use Rattle.hy_core.specs.declared.parts.Answered.{Answered}
 use Rattle.hy_core.specs.declared.parts.End.{End}
 use Rattle.hy_core.specs.declared.parts.End.TheVariants.{Reading, EntryAt, FullLog, Stopped}
@@ -35,34 +35,34 @@ pub record Holding : Type 0 where
   pub log : List EntryKind
   pub pages : Pages
   pub rollers : List Roll
-  pub seats : List Seat
+  pub client_states : List ClientState
   pub told : List Answered
   pub armed : Option ArmedStop
 
-abbrev pub held : Parts → Holding
-held p = record { log = p.log.items; pages = p.pages; rollers = p.rollers.items; seats = p.seats.items; told = p.told.items; armed = p.armed }
+abbrev pub log_held : Parts → Holding
+log_held p = record { log = p.log.items; pages = p.pages; rollers = p.rollers.items; client_states = p.client_states.items; told = p.told.items; armed = p.armed }
 
-abbrev pub state_of : Holding → State
-state_of h = record { log = h.log; boards = map rolled_upto h.rollers; sessions = map (λ x. x.session) h.seats; armed = h.armed }
+abbrev pub state_in_course : Holding → State
+state_in_course h = record { log = h.log; boards = map rolled_upto h.rollers; sessions = map (λ x. x.session) h.client_states; armed = h.armed }
 
-abbrev pub ending_of : End → Ending
-ending_of Reading = ByReading
-ending_of (EntryAt pos) = ByEntryAt pos
-ending_of FullLog = ByFullLog
-ending_of Stopped = ByStop
+abbrev pub ending_in_course : End → Ending
+ending_in_course Reading = ByReading
+ending_in_course (EntryAt pos) = ByEntryAt pos
+ending_in_course FullLog = ByFullLog
+ending_in_course Stopped = ByStop
 
-abbrev pub ended_of : Answered → Ended
-ended_of t = record { client = t.client; number = t.number; snap = t.snap; ending = ending_of t.end }
+abbrev pub ended_in_course : Answered → Ended
+ended_in_course t = record { client = t.client; number = t.number; snap = t.snap; ending = ending_in_course t.end }
 
 abbrev pub done_of : Holding → List Ended
-done_of h = map ended_of h.told
+done_of h = map ended_in_course h.told
 
 abbrev pub course_of : Workload → Holding → Course
-course_of script h = record { script = script; state = state_of h; ended = done_of h; broken = is_none h.pages.bodies }
+course_of script h = record { script = script; state = state_in_course h; ended = done_of h; broken = is_none h.pages.bodies }
 
 -- the entry of a program that wrote
 abbrev pub entry_left : ℕ → ℕ → ℕ → Effects → Option EntryKind
-entry_left server client snap effects = if has_written effects then Some (Txn (intention server client snap effects)) else None
+entry_left server client snap effects = if notes_write effects then Some (Txn (intention server client snap effects)) else None
 
 -- a begun client keeps what its program was answered and what it leaves
 pub record IsRunning (script : Workload) (log : List EntryKind) (number : ℕ) (c : Client) (next snap : ℕ) (running : Option Running) : Type 0 where
@@ -76,33 +76,33 @@ pub record IsRunning (script : Workload) (log : List EntryKind) (number : ℕ) (
   pub answers : run.answers ≡ (exec program (live script.shape log snap)).0
   pub leaves : run.entry ≡ entry_left c.server number snap (exec program (live script.shape log snap)).1
 
--- a client's seat: its next program, and what it keeps where it is begun
-pub record IsSeat (script : Workload) (log : List EntryKind) (number : ℕ) (c : Client) (x : Seat) : Type 0 where
+-- a client's client_state: its next program, and what it keeps where it is begun
+pub record IsClientState (script : Workload) (log : List EntryKind) (number : ℕ) (c : Client) (x : ClientState) : Type 0 where
   pub first : 1 ≤ x.session.next
   pub most : x.session.next ≤ length c.programs + 1
   pub begun : (snap : ℕ) → x.session.phase ≡ Begun snap → IsRunning script log number c x.session.next snap x.running
 
-abbrev pub fresh_seat : Seat
-fresh_seat = record { session = fresh_session; running = None }
+abbrev pub fresh_client_state : ClientState
+fresh_client_state = record { session = fresh_session; running = None }
 
--- the seats of clients, the first of which has this number
-abbrev pub AreSeats : Workload → List EntryKind → ℕ → List Client → List Seat → Type 0
-AreSeats script log number [] [] = ⊤
-AreSeats script log number [] (x ∷ xs) = ⊥
-AreSeats script log number (c ∷ cs) [] = ⊥
-AreSeats script log number (c ∷ cs) (x ∷ xs) = IsSeat script log number c x × AreSeats script log (number + 1) cs xs
+-- the client_states of clients, the first of which has this number
+abbrev pub AreClientStates : Workload → List EntryKind → ℕ → List Client → List ClientState → Type 0
+AreClientStates script log number [] [] = ⊤
+AreClientStates script log number [] (x ∷ xs) = ⊥
+AreClientStates script log number (c ∷ cs) [] = ⊥
+AreClientStates script log number (c ∷ cs) (x ∷ xs) = IsClientState script log number c x × AreClientStates script log (number + 1) cs xs
 
 -- a server's board: a roller that stands for the log up to there
-pub record IsBoard (script : Workload) (log : List EntryKind) (r : Roll) : Type 0 where
+pub record IsServerBoard (script : Workload) (log : List EntryKind) (r : Roll) : Type 0 where
   pub shape : r.shape ≡ script.shape
   pub from_first : r.from ≡ 0
   pub within : rolled_upto r ≤ length log
   pub stands : Stands (take (rolled_upto r) log) r
 
 -- a program that ended, with the answers that it was given
-pub record IsAnswered (script : Workload) (log : List EntryKind) (t : Answered) : Type 0 where
+pub record IsStepAnswered (script : Workload) (log : List EntryKind) (t : Answered) : Type 0 where
   pub within : t.snap ≤ length log
-  pub answers : t.answers ≡ answers_to script log (ended_of t)
+  pub answers : t.answers ≡ answers_to script log (ended_in_course t)
 
 -- the device holds the entries' spellings, unless its log is broken
 pub record IsOnDevice (script : Workload) (log : List EntryKind) (pages : Pages) : Type 0 where
@@ -114,9 +114,9 @@ pub record IsHolding (script : Workload) (h : Holding) : Type 0 where
   pub armed : IfSome h.armed IsStop
   pub lawful : IsLawful script.shape h.log
   pub servers : length h.rollers ≡ script.servers
-  pub boards : AllByRecursion (IsBoard script h.log) h.rollers
-  pub seats : AreSeats script h.log 1 script.clients h.seats
-  pub told : AllByRecursion (IsAnswered script h.log) h.told
+  pub boards : AllByRecursion (IsServerBoard script h.log) h.rollers
+  pub client_states : AreClientStates script h.log 1 script.clients h.client_states
+  pub told : AllByRecursion (IsStepAnswered script h.log) h.told
 
 -- and a run has led there
 pub record IsCore (script : Workload) (h : Holding) : Type 0 where
@@ -124,10 +124,10 @@ pub record IsCore (script : Workload) (h : Holding) : Type 0 where
   pub reached : IsReached (course_of script h)
 
 -- one event further
-pub record Steps (script : Workload) (old new : Holding) (event : Event) : Type 0 where
+pub record StepsTo (script : Workload) (old new : Holding) (event : Event) : Type 0 where
   pub holding : IsHolding script new
-  pub leads : state_of new ≡ after (setting_of script) (state_of old) event (added script (state_of old) event)
-  pub ends : done_of new ≡ done_of old ++ ended_by (state_of old) event
+  pub leads : state_in_course new ≡ after (setting_of script) (state_in_course old) event (added script (state_in_course old) event)
+  pub ends : done_of new ≡ done_of old ++ ended_by (state_in_course old) event
   pub whole : is_none new.pages.bodies ≡ is_none old.pages.bodies
 
 -- whether a client's program is begun, and then whether it wrote
@@ -138,79 +138,79 @@ begun_wrote script s client = if client_passes (setting_of script) s client (λ 
 abbrev pub is_ready : Session → ℕ → ℕ → Bool
 is_ready session programs board = not (is_begun session.phase) && (nat_le session.next programs && nat_le session.last board)
 
--- a client's seat once the program of this number has ended
-abbrev pub departed : ℕ → ℕ → Seat
+-- a client's client_state once the program of this number has ended
+abbrev pub departed : ℕ → ℕ → ClientState
 departed number last = record { session = record { next = number + 1; phase = Idle; last = last }; running = None }
 
--- a client's seat, begun at a snapshot
-pub record BegunSeat (h : Holding) (client snap : ℕ) (x : Seat) (run : Running) : Type 0 where
-  pub is : nth h.seats client ≡ Some x
+-- a client's client_state, begun at a snapshot
+pub record BegunClientState (h : Holding) (client snap : ℕ) (x : ClientState) (run : Running) : Type 0 where
+  pub is : nth h.client_states client ≡ Some x
   pub phase : x.session.phase ≡ Begun snap
   pub running : x.running ≡ Some run
 
 -- the client is begun
 abbrev pub IsBegunAt : Holding → ℕ → Type 0
-IsBegunAt h client = (snap : ℕ) × (x : Seat) × (run : Running) × BegunSeat h client snap x run
+IsBegunAt h client = (snap : ℕ) × (x : ClientState) × (run : Running) × BegunClientState h client snap x run
 
 -- the number after the client's next program is one of 32 bits
 abbrev pub NextFits : Holding → ℕ → Type 0
-NextFits h client = (x : Seat) → nth h.seats client ≡ Some x → x.session.next + 1 < 2 ^ 32
+NextFits h client = (x : ClientState) → nth h.client_states client ≡ Some x → x.session.next + 1 < 2 ^ 32
 
 -- what the client's program leaves is an entry
 abbrev pub LeavesEntry : Holding → ℕ → Type 0
-LeavesEntry h client = (x : Seat) (run : Running) → nth h.seats client ≡ Some x → x.running ≡ Some run → (e : EntryKind) × (run.entry ≡ Some e)
+LeavesEntry h client = (x : ClientState) (run : Running) → nth h.client_states client ≡ Some x → x.running ≡ Some run → (e : EntryKind) × (run.entry ≡ Some e)
 
 -- what is told of a begun program that ends so
-abbrev pub told_of : ℕ → ℕ → Seat → Running → End → Answered
-told_of client snap x run end = record { client = client; number = x.session.next; snap = snap; end = end; answers = run.answers }
+abbrev pub told_in_course : ℕ → ℕ → ClientState → Running → End → Answered
+told_in_course client snap x run end = record { client = client; number = x.session.next; snap = snap; end = end; answers = run.answers }
 
--- a begun client's program ends: it is told, and the client's seat is at the next program
-abbrev pub finishing : Holding → ℕ → ℕ → Seat → Running → End → Holding
+-- a begun client's program ends: it is told, and the client's client_state is at the next program
+abbrev pub finishing : Holding → ℕ → ℕ → ClientState → Running → End → Holding
 finishing h client snap x run end = record h {
-  seats = change_nth (λ _. departed x.session.next x.session.last) h.seats client;
-  told = h.told ++ told_of client snap x run end ∷ [];
+  client_states = change_nth (λ _. departed x.session.next x.session.last) h.client_states client;
+  told = h.told ++ told_in_course client snap x run end ∷ [];
 }
 
 abbrev pub Finishes : Holding → Holding → ℕ → End → Type 0
-Finishes old new client end = (snap : ℕ) (x : Seat) (run : Running) → BegunSeat old client snap x run → new ≡ finishing old client snap x run end
+Finishes old new client end = (snap : ℕ) (x : ClientState) (run : Running) → BegunClientState old client snap x run → new ≡ finishing old client snap x run end
 
 -- the pages with a body more, so many times, where a stop may strike in the first append
 abbrev pub pages_with : Option ArmedStop → ℕ → EntryKind → Pages → Pages
 pages_with stop count e pages = record pages { bodies = option_map (with_body stop count (spelling e)) pages.bodies }
 
 -- and its entry is appended
-abbrev pub appending : Holding → ℕ → ℕ → ℕ → Seat → Running → EntryKind → Holding
-appending h client pos snap x run e = record h {
+abbrev pub appending_in : Holding → ℕ → ℕ → ℕ → ClientState → Running → EntryKind → Holding
+appending_in h client pos snap x run e = record h {
   log = h.log ++ e ∷ [];
   pages = pages_with None 1 e h.pages;
-  seats = change_nth (λ _. departed x.session.next pos) h.seats client;
-  told = h.told ++ told_of client snap x run (EntryAt pos) ∷ [];
+  client_states = change_nth (λ _. departed x.session.next pos) h.client_states client;
+  told = h.told ++ told_in_course client snap x run (EntryAt pos) ∷ [];
 }
 
 abbrev pub Appends : Holding → Holding → ℕ → ℕ → Type 0
-Appends old new client pos = (snap : ℕ) (x : Seat) (run : Running) (e : EntryKind) → BegunSeat old client snap x run → run.entry ≡ Some e → new ≡ appending old client pos snap x run e
+Appends old new client pos = (snap : ℕ) (x : ClientState) (run : Running) (e : EntryKind) → BegunClientState old client snap x run → run.entry ≡ Some e → new ≡ appending_in old client pos snap x run e
 
 abbrev pub home_of : Client → Home
 home_of c = record { server = c.server; programs = length c.programs }
 
 -- the first of these clients, the first of which has this number, that is begun or has a program left
-abbrev pub first_unfinished : ℕ → List Client → List Seat → Option (ℕ × (Home × Session))
+abbrev pub first_unfinished : ℕ → List Client → List ClientState → Option (ℕ × (Home × Session))
 first_unfinished number [] xs = None
 first_unfinished number (c ∷ cs) [] = None
 first_unfinished number (c ∷ cs) (x ∷ xs) = if not (is_done (home_of c) x.session) then Some (number, (home_of c, x.session)) else first_unfinished (number + 1) cs xs
 
 -- the client with this number is the first
-pub record IsUnfinished (clients : List Client) (seats : List Seat) (number : ℕ) : Type 0 where
+pub record IsUnfinished (clients : List Client) (client_states : List ClientState) (number : ℕ) : Type 0 where
   pub own : Client
   pub is_own : nth clients number ≡ Some own
-  pub seat : Seat
-  pub is_seat : nth seats number ≡ Some seat
-  pub first : first_unfinished 1 clients seats ≡ Some (number, (home_of own, seat.session))
+  pub client_state : ClientState
+  pub is_client_state : nth client_states number ≡ Some client_state
+  pub first : first_unfinished 1 clients client_states ≡ Some (number, (home_of own, client_state.session))
 
 -- and this is its session, and its server
-pub record IsUnfinishedAt (clients : List Client) (seats : List Seat) (number : ℕ) (session : Session) (server : ℕ) : Type 0 where
-  pub is : IsUnfinished clients seats number
-  pub session_is : is.seat.session ≡ session
+pub record IsUnfinishedAt (clients : List Client) (client_states : List ClientState) (number : ℕ) (session : Session) (server : ℕ) : Type 0 where
+  pub is : IsUnfinished clients client_states number
+  pub session_is : is.client_state.session ≡ session
   pub server_is : is.own.server ≡ server
 
 -- the first of these servers, the first of which has this number, whose board is below the log's length
@@ -227,13 +227,13 @@ abbrev pub may_stop : Option ArmedStop → ℕ → ℕ → Bool
 may_stop armed call pattern = is_none armed && (is_within 1 4 call && nat_le pattern 2)
 
 -- what the client's begun program leaves
-abbrev pub left_entry : List Seat → ℕ → Option EntryKind
-left_entry seats client = option_and_then (λ x. option_and_then (λ (r : Running). r.entry) x.running) (nth seats client)
+abbrev pub left_entry : List ClientState → ℕ → Option EntryKind
+left_entry client_states client = option_and_then (λ x. option_and_then (λ (r : Running). r.entry) x.running) (nth client_states client)
 
 -- A roller for each server, at the end of the last whole group, stands for the log.
 pub record AreRestarted (script : Workload) (log : List EntryKind) (rs : List Roll) : Type 0 where
   pub count : length rs ≡ script.servers
-  pub boards : AllByRecursion (IsBoard script log) rs
+  pub boards : AllByRecursion (IsServerBoard script log) rs
   pub at : map rolled_upto rs ≡ replicate script.servers (whole_groups script.shape (length log))
 
 -- the entry that a stop keeps
@@ -253,34 +253,34 @@ abbrev pub HasPlaces : Pages → ℕ → Type 0
 HasPlaces pages count = IfSome pages.bodies (λ bodies. length bodies + count ≤ pages.shape.cap)
 
 -- a begun client's program ends by its entry, which is on the device
-abbrev pub leaving : Holding → ℕ → ℕ → ℕ → Seat → Running → EntryKind → Holding
-leaving h client pos snap x run e = record (appending h client pos snap x run e) { pages = h.pages }
+abbrev pub leaving : Holding → ℕ → ℕ → ℕ → ClientState → Running → EntryKind → Holding
+leaving h client pos snap x run e = record (appending_in h client pos snap x run e) { pages = h.pages }
 
 abbrev pub Leaves : Holding → Holding → ℕ → ℕ → Type 0
-Leaves old new client pos = (snap : ℕ) (x : Seat) (run : Running) (e : EntryKind) → BegunSeat old client snap x run → run.entry ≡ Some e → new ≡ leaving old client pos snap x run e
+Leaves old new client pos = (snap : ℕ) (x : ClientState) (run : Running) (e : EntryKind) → BegunClientState old client snap x run → run.entry ≡ Some e → new ≡ leaving old client pos snap x run e
 
 -- the log on the device is broken in a restart
 pub record Breaking (old new : Holding) : Type 0 where
   pub is : new ≡ broken old
   pub armed : is_some old.armed ≡ true
 
--- the number after a seat's next program is one of 32 bits
-abbrev pub SeatFits : Seat → Type 0
-SeatFits x = x.session.next + 1 < 2 ^ 32
+-- the number after a client_state's next program is one of 32 bits
+abbrev pub ClientStateFits : ClientState → Type 0
+ClientStateFits x = x.session.next + 1 < 2 ^ 32
 
--- a seat whose program is lost where it was begun
-abbrev pub abandoned_seat : Seat → Seat
-abandoned_seat x = if is_begun x.session.phase then departed x.session.next x.session.last else x
+-- a client_state whose program is lost where it was begun
+abbrev pub abandoned_client_state : ClientState → ClientState
+abandoned_client_state x = if is_begun x.session.phase then departed x.session.next x.session.last else x
 
 -- what is told of it
-abbrev pub abandoned_told : ℕ → Seat → List Answered
+abbrev pub abandoned_told : ℕ → ClientState → List Answered
 abandoned_told client x = option_to_list (option_map (λ snap. record { client = client; number = x.session.next; snap = snap; end = Stopped; answers = [] }) (snap_of x.session.phase))
 
 -- of these clients, the first of which has this number
-abbrev pub all_abandoned : ℕ → List Seat → List Answered
+abbrev pub all_abandoned : ℕ → List ClientState → List Answered
 all_abandoned number [] = []
 all_abandoned number (x ∷ xs) = abandoned_told number x ++ all_abandoned (number + 1) xs
 
 -- servers and clients restart
 pub record HasRestarted (old new : Holding) (rs : List Roll) : Type 0 where
-  pub is : new ≡ record old { rollers = rs; seats = map abandoned_seat old.seats; told = old.told ++ all_abandoned 1 old.seats; armed = None }
+  pub is : new ≡ record old { rollers = rs; client_states = map abandoned_client_state old.client_states; told = old.told ++ all_abandoned 1 old.client_states; armed = None }

@@ -2,12 +2,13 @@
 ghost use Rattle.std.specs.Prelude.{◌≡◌, ◌⊎◌, ◌+◌, ◌-◌, ◌<◌, ◌≤◌, ◌++◌, ◌∷◌, [], ◌^◌, length, replicate, take, drop, vec_len, vec_capacity, Some, None, IfOk, OnOk, OnErr};
 ghost use Rattle.std.specs.List.{AllByRecursion};
 ghost use Rattle.hy_base.specs.Log.{IsLawful};
-ghost use Rattle.hy_base.specs.Shape.{IsWithin, IsGoodShape, whole_groups};
+ghost use Rattle.hy_base.specs.Shape.{IsGoodShape, whole_groups};
+ghost use Rattle.hy_base.specs.Limits.{IsThreadCount};
 ghost use Rattle.hy_rules.specs.Moves.{is_kept};
 ghost use Rattle.hy_memlog.specs.Pages.{IsStop};
-ghost use Rattle.hy_core.specs.Parts.{IsHolding, AreRestarted, HasPlaces, SeatFits, HasRestarted, abandoned_seat, abandoned_told, kept_by, struck, broken, held};
+ghost use Rattle.hy_core.specs.Parts.{IsHolding, AreRestarted, HasPlaces, ClientStateFits, HasRestarted, abandoned_client_state, abandoned_told, kept_by, struck, broken, log_held};
 
-use crate::parts::{Answered, End, Parts, Seat, roller_of};
+use crate::parts::{Answered, ClientState, End, Parts, roller_of};
 use hy_base::{Answers, ArmedStop, Entry, Phase, Pos, Script, Session, Shape, Shared};
 use hy_codec::encode;
 use hy_pipe::{Gate, Roller};
@@ -92,10 +93,10 @@ fn restarted<R: Threads + Sync, G: Gate + Sync>(
     threads: usize,
     gate: &G,
 ) -> Result<Vec<Roller>, AllocError>
-    requires holding { IsHolding script.now (held core.now) }
-    requires lawful { IsLawful script.now.shape ((held core.now).log ++ kept_by stop entry.now) }
-    requires threads { IsWithin 1 16 threads }
-    ensures { IfOk result (λ rollers. AreRestarted script.now ((held core.now).log ++ kept_by stop entry.now) rollers.items) }
+    requires holding { IsHolding script.now (log_held core.now) }
+    requires lawful { IsLawful script.now.shape ((log_held core.now).log ++ kept_by stop entry.now) }
+    requires threads { IsThreadCount threads }
+    ensures { IfOk result (λ rollers. AreRestarted script.now ((log_held core.now).log ++ kept_by stop entry.now) rollers.items) }
 {
     let shape = script.shape();
     let Some(roller) = roller_of(&core.rollers, 1) else {
@@ -120,15 +121,15 @@ pub(crate) fn strike<R: Threads + Sync, G: Gate + Sync>(
     threads: usize,
     gate: &G,
 ) -> Result<Vec<Roller>, AllocError>
-    requires holding { IsHolding script.now (held core.old) }
-    requires room_left { HasPlaces (held core.old).pages 1 }
+    requires holding { IsHolding script.now (log_held core.old) }
+    requires room_left { HasPlaces (log_held core.old).pages 1 }
     requires stop { IsStop stop }
-    requires lawful { IsLawful script.now.shape ((held core.old).log ++ kept_by stop entry.now) }
-    requires threads { IsWithin 1 16 threads }
-    ensures ok { OnOk result (held core.new ≡ struck stop entry.now (held core.old)) }
-    ensures boards { IfOk result (λ rollers. AreRestarted script.now ((held core.old).log ++ kept_by stop entry.now) rollers.items) }
+    requires lawful { IsLawful script.now.shape ((log_held core.old).log ++ kept_by stop entry.now) }
+    requires threads { IsThreadCount threads }
+    ensures ok { OnOk result (log_held core.new ≡ struck stop entry.now (log_held core.old)) }
+    ensures boards { IfOk result (λ rollers. AreRestarted script.now ((log_held core.old).log ++ kept_by stop entry.now) rollers.items) }
     ensures places { (core.new.log ≡ core.old.log) × (core.new.told ≡ core.old.told) }
-    ensures err { OnErr result ((held core.new ≡ held core.old) ⊎ (held core.new ≡ broken (held core.old))) }
+    ensures err { OnErr result ((log_held core.new ≡ log_held core.old) ⊎ (log_held core.new ≡ broken (log_held core.old))) }
 {
     let body = encode(alloc, entry.get())?;
     let rollers = restarted(rt, alloc, script, core, entry, stop, threads, gate)?;
@@ -147,24 +148,24 @@ pub(crate) fn keep(log: &mut Vec<Shared<Entry>>, entry: Shared<Entry>, stop: Arm
 }
 
 // A begun client's program is lost, and the client goes on to the next.
-fn abandon(alloc: Global, seat: &mut Seat, told: &mut Vec<Answered>, client: u8)
+fn abandon(alloc: Global, client_state: &mut ClientState, told: &mut Vec<Answered>, client: u8)
     requires place { vec_len told.old < vec_capacity told.old }
-    requires fits { seat.old.session.next + 1 < 2 ^ 32 }
-    ensures seat { seat.new ≡ abandoned_seat seat.old }
-    ensures told { told.new.items ≡ told.old.items ++ abandoned_told client seat.old }
+    requires fits { client_state.old.session.next + 1 < 2 ^ 32 }
+    ensures client_state { client_state.new ≡ abandoned_client_state client_state.old }
+    ensures told { told.new.items ≡ told.old.items ++ abandoned_told client client_state.old }
     ensures more { vec_len told.new ≤ vec_len told.old + 1 }
     ensures capacity { vec_capacity told.new ≡ vec_capacity told.old }
 {
-    let Session { next, phase, last } = seat.session;
+    let Session { next, phase, last } = client_state.session;
     let Phase::Begun { snap } = phase else {
         return;
     };
-    seat.session = Session {
+    client_state.session = Session {
         next: next + 1,
         phase: Phase::Idle,
         last,
     };
-    seat.running = None;
+    client_state.running = None;
     told.push_reserved(Answered {
         client,
         number: next,
@@ -176,14 +177,19 @@ fn abandon(alloc: Global, seat: &mut Seat, told: &mut Vec<Answered>, client: u8)
 
 /// The servers and the clients restart: the boards are these, each begun program is lost, and no stop is armed.
 pub(crate) fn settle(alloc: Global, core: &mut Parts, rollers: Vec<Roller>)
-    requires places { vec_len core.old.told + length core.old.seats.items ≤ vec_capacity core.old.told }
-    requires few { length core.old.seats.items ≤ 128 }
-    requires fit { AllByRecursion SeatFits core.old.seats.items }
-    ensures { HasRestarted (held core.old) (held core.new) rollers.items }
+    requires places { vec_len core.old.told + length core.old.client_states.items ≤ vec_capacity core.old.told }
+    requires few { length core.old.client_states.items ≤ 128 }
+    requires fit { AllByRecursion ClientStateFits core.old.client_states.items }
+    ensures { HasRestarted (log_held core.old) (log_held core.new) rollers.items }
 {
     core.rollers = rollers;
     core.armed = None;
-    for at in 0..core.seats.len() {
-        abandon(alloc, &mut core.seats[at], &mut core.told, at as u8 + 1);
+    for at in 0..core.client_states.len() {
+        abandon(
+            alloc,
+            &mut core.client_states[at],
+            &mut core.told,
+            at as u8 + 1,
+        );
     }
 }

@@ -1,11 +1,11 @@
 //! The core.
 ghost use Rattle.std.specs.Prelude.{◌≡◌, ◌⊎◌, ℕ, length, true, false, None, Err, IfOk, OnOk, OnErr, IsErrOf};
-ghost use Rattle.hy_base.specs.Shape.{IsWithin};
+ghost use Rattle.hy_base.specs.Limits.{IsThreadCount};
 ghost use Rattle.hy_rules.specs.Moves.{board_of, is_declared};
 ghost use Rattle.hy_rules.specs.Summary.{reads_in};
 ghost use Rattle.hy_rules.specs.Validation.{rows, verdicts};
 ghost use Rattle.hy_rules.specs.Runs.{setting_of, step, next_event, is_finished, results_at};
-ghost use Rattle.hy_core.specs.Course.{Course, IsReached, Advances, Breaks, Follows, FollowsSome, IsRefusedAt, Extends, Completes, opened};
+ghost use Rattle.hy_core.specs.Course.{Course, IsReached, Advances, Breaks, Follows, FollowsSome, IsRefusedAt, Extends, Completes, opened_course};
 
 use crate::moves::perform;
 use crate::parts::{Parts, board_at, may_happen, open, roller_of};
@@ -28,13 +28,13 @@ pub struct Core {
 
 impl Model for Core {
     ghost use Rattle.hy_core.specs.Course.{Course};
-    ghost use Rattle.hy_core.specs.Parts.{IsCore, course_of, held};
+    ghost use Rattle.hy_core.specs.Parts.{IsCore, course_of, log_held};
 
     ghost Value = { Course };
 
-    ghost view = { λ c. course_of c.script (held c.parts) };
+    ghost view = { λ c. course_of c.script (log_held c.parts) };
 
-    ghost invariant = { λ c. IsCore c.script (held c.parts) };
+    ghost invariant = { λ c. IsCore c.script (log_held c.parts) };
 }
 
 /// Why an event didn't happen. The core is as before, unless it broke.
@@ -73,7 +73,7 @@ impl From<AllocError> for StepError {
 impl Core {
     /// The state in which a run of the script opens. `AllocError` where memory is wanting.
     pub fn new(alloc: Global, script: Script) -> Result<Core, AllocError>
-        ensures { IfOk result (λ core. core ≡ opened script) }
+        ensures { IfOk result (λ core. core ≡ opened_course script) }
     {
         // The shape of a script is good.
         let _shape = script.shape();
@@ -101,7 +101,7 @@ impl Core {
         threads: usize,
         gate: &G,
     ) -> Result<(), StepError>
-        requires threads { IsWithin 1 16 threads }
+        requires threads { IsThreadCount threads }
         ensures ok { OnOk result (Advances self.old event self.new) }
         ensures refused { result ≡ Err StepError.NotEnabled → step self.old.script self.old.state event ≡ None }
         ensures disabled { self.old.broken ≡ false → step self.old.script self.old.state event ≡ None → result ≡ Err StepError.NotEnabled }
@@ -147,7 +147,7 @@ impl Core {
         threads: usize,
         gate: &G,
     ) -> Result<(), RunError>
-        requires threads { IsWithin 1 16 threads }
+        requires threads { IsThreadCount threads }
         ensures ok { OnOk result (Follows self.old events.now self.new) }
         ensures refused { (index : ℕ) → IsErrOf result (RunError.NotEnabled index) → IsRefusedAt self.old events.now self.new index }
         ensures memory { IsErrOf result RunError.Memory → FollowsSome self.old events.now self.new }
@@ -173,7 +173,7 @@ impl Core {
         threads: usize,
         gate: &G,
     ) -> Result<(), AllocError>
-        requires threads { IsWithin 1 16 threads }
+        requires threads { IsThreadCount threads }
         ensures ok { OnOk result (Completes self.old events.old.items events.new.items self.new) }
         ensures err { OnErr result (Extends self.old events.old.items events.new.items self.new) }
     {

@@ -9,7 +9,7 @@
 
 ghost use Rattle.std.specs.Prelude.{◌≡◌, ◌+◌, ◌-◌, ◌^◌, ◌<◌, ◌≤◌, ℕ, Bool, List, length, min, IsTrue, IsOk, IsErr, IfOk, OnOk, OnErr};
 ghost use Rattle.hy_base.specs.Faults.{HasCause};
-ghost use Rattle.hy_disk.specs.Content.{Content, Image, settled, after_write, AfterFailedWrite, read_into};
+ghost use Rattle.hy_disk.specs.Content.{Content, Image, settled, with_pending, AfterFailedWrite, read_into};
 ghost use Rattle.hy_disk.specs.Moments.{Elapses};
 ghost use Rattle.hy_disk.specs.Strikes.{IsUnarmed};
 
@@ -85,7 +85,7 @@ pub trait Disk {
     fn write_at(&mut self, place: u64, bytes: &[u8]) -> Result<(), Failed>
         requires within { IsTrue tells → place ≤ length (content self.old).seen }
         requires fits { place + length bytes.now < 2 ^ 64 }
-        ensures written { IsTrue tells → OnOk result (content self.new ≡ after_write (content self.old) place bytes.now) }
+        ensures written { IsTrue tells → OnOk result (content self.new ≡ with_pending (content self.old) place bytes.now) }
         ensures torn { IsTrue tells → OnErr result (AfterFailedWrite (content self.old) place (length bytes.now) (content self.new)) }
         ensures no_shorter { IsTrue tells → length (content self.old).seen ≤ length (content self.new).seen }
         ensures time { Elapses (moment self.old) (moment self.new) (left_since self.old) (left_since self.new) (content self.new) }
@@ -99,7 +99,7 @@ pub trait Disk {
         ensures stays_struck { strikes self.old 0 → strikes self.new 0 }
         ensures unarmed { IsUnarmed (strikes self.old) → IsUnarmed (strikes self.new) }
         ensures struck { (k : ℕ) → k ≤ 1 → strikes self.old k → IsErr result }
-        ensures done { IsTrue tells → strikes self.old 1 → (k : ℕ) → has_room self.old k (length bytes.now) → content self.new ≡ after_write (content self.old) place bytes.now };
+        ensures done { IsTrue tells → strikes self.old 1 → (k : ℕ) → has_room self.old k (length bytes.now) → content self.new ≡ with_pending (content self.old) place bytes.now };
 
     /// Makes what a read gives stable: after it a crash leaves exactly that.
     ///

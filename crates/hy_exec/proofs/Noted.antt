@@ -1,7 +1,6 @@
 -- What is noted keeps its order.
-use Rattle.std.proofs.Common.{◌≡◌, ℕ, ◌≤◌, Bool, true, false, List, refl, sym, ap, ◌∙◌, subst}
+use Rattle.std.proofs.Common.{◌≡◌, ℕ, ◌≤◌, Bool, true, false, List, refl, sym, ap, ◌∙◌, subst, Bor}
 use Rattle.std.specs.Prelude.{nat_lt, if◌then◌else◌, is_some, Some, None, Option, option_copied}
-use Rattle.std.proofs.Common.{Bor}
 use Rattle.std.proofs.lemmas.List.Elements.{All-from_recursion, recursion_from_All}
 use Rattle.hy_base.specs.declared.record.Span.{Span}
 use Rattle.hy_base.specs.declared.record.Write.{Write}
@@ -10,7 +9,7 @@ use Rattle.hy_base.specs.Entry.{span_before, write_before}
 use Rattle.hy_rules.specs.Exec.{Effects, own_write, with_point, with_span, with_write}
 use Rattle.hy_rules.specs.EffectLaws.{AreInOrder}
 use Rattle.hy_exec.specs.Running.{HoldsFew}
-use Rattle.hy_exec.proofs.Rising.{all-put, points_rise, spans_rise, writes_rise}
+use Rattle.hy_rules.proofs.Rising.{all-put, points_rise, spans_rise, writes_rise}
 
 pub more_writes : (key : ℕ) (value : Option (List ℕ)) (e : Effects) → AreInOrder e → HoldsFew (with_write key value e) → AreInOrder (with_write key value e)
 more_writes key value e h few = record {

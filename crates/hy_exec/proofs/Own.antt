@@ -5,29 +5,29 @@ use Rattle.std.specs.Prelude.{IsTrue, IfSome, nat_lt, nat_le, not, filter, find,
 use Rattle.std.proofs.lemmas.Bool.{cases_lt, cases_order, eq-eqb, ne_eqb, lt-ltb, le-ltb, lt-leb, le-leb, ltb-true, eqb-true}
 use Rattle.hy_base.specs.declared.record.Row.{Row}
 use Rattle.hy_base.specs.declared.record.Write.{Write}
-use Rattle.hy_base.specs.declared.report.Pair.{Pair}
 use Rattle.hy_base.specs.Lists.{put}
 use Rattle.hy_base.specs.Entry.{is_rising, write_before}
 use Rattle.hy_base.specs.Rows.{Each, IsOrdered, applied, find_row, row_before, rows_at}
 use Rattle.hy_base.proofs.EachLemmas.{Each-map}
 use Rattle.hy_base.proofs.RowLemmas.{find_none, ordered_put}
 use Rattle.hy_rules.specs.History.{pairs_of}
-use Rattle.hy_rules.specs.Exec.{after_write, after_writes, pair_before, value_at}
+use Rattle.hy_rules.specs.Exec.{after_write, after_writes, value_in}
 use Rattle.hy_tree.specs.TreeRows.{first_from}
 use Rattle.hy_exec.specs.Scans.{own_rows}
-use Rattle.hy_exec.proofs.Rising.{first, second}
+use Rattle.hy_rules.proofs.PairLemmas.{one_row}
+use Rattle.hy_rules.proofs.Rising.{first, second}
 
 cases_le : (a b : ℕ) → (a ≤ b) ⊎ (b < a)
 cases_le a b = elim (cases_lt b a) [ inl h ↦ inr h | inr h ↦ inl h ]
 
 -- ---- the value at a key
 
-pub value_found : (key : ℕ) (rows : List Row) → IsOrdered rows → value_at (pairs_of rows) key ≡ option_and_then (λ r. r.value) (find_row key rows)
+pub value_found : (key : ℕ) (rows : List Row) → IsOrdered rows → value_in (pairs_of rows) key ≡ option_and_then (λ r. r.value) (find_row key rows)
 value_found key [] h = refl
 value_found key (r ∷ rs) h = go r.value (r.key == key) refl refl (value_found key rs h.1)
   where
-    go : (o : Option (List ℕ)) (b : Bool) → r.value ≡ o → (r.key == key) ≡ b → value_at (pairs_of rs) key ≡ option_and_then (λ r. r.value) (find_row key rs)
-        → value_at (pairs_of (r ∷ rs)) key ≡ option_and_then (λ r. r.value) (find_row key (r ∷ rs))
+    go : (o : Option (List ℕ)) (b : Bool) → r.value ≡ o → (r.key == key) ≡ b → value_in (pairs_of rs) key ≡ option_and_then (λ r. r.value) (find_row key rs)
+        → value_in (pairs_of (r ∷ rs)) key ≡ option_and_then (λ r. r.value) (find_row key (r ∷ rs))
     go None true e k more =
         let key_is : r.key ≡ key = eqb-true r.key key k in
         let gone : find_row key rs ≡ None = find_none key rs (Each-map (λ s. r.key < s.key) (λ s. s.key ≡ key → ⊥) (λ s p q. omega (arith, p, q, key_is)) rs h.0) in
@@ -41,71 +41,8 @@ value_found key (r ∷ rs) h = go r.value (r.key == key) refl refl (value_found 
 abbrev pub written : ℕ → Option (List ℕ) → Row
 written key value = record { key = key; writer = 0; value = value }
 
-untouched : (key : ℕ) (rows : List Row) → Each (λ s. key < s.key) rows → filter (λ p. not (p.key == key)) (pairs_of rows) ≡ pairs_of rows
-untouched key [] h = refl
-untouched key (r ∷ rs) h = go r.value refl (untouched key rs h.1)
-  where
-    go : (o : Option (List ℕ)) → r.value ≡ o → filter (λ p. not (p.key == key)) (pairs_of rs) ≡ pairs_of rs → filter (λ p. not (p.key == key)) (pairs_of (r ∷ rs)) ≡ pairs_of (r ∷ rs)
-    go None e more = rw e more
-    go (Some v) e more = rw (e, ne_eqb r.key key (λ x. omega (arith, x, h.0))) (ap (λ ps. record { key = r.key; value = v } ∷ ps) more)
-
-put_below : (x : Pair) (rows : List Row) → Each (λ s. x.key < s.key) rows → put pair_before x (pairs_of rows) ≡ x ∷ pairs_of rows
-put_below x [] h = refl
-put_below x (r ∷ rs) h = go r.value refl (put_below x rs h.1)
-  where
-    go : (o : Option (List ℕ)) → r.value ≡ o → put pair_before x (pairs_of rs) ≡ x ∷ pairs_of rs → put pair_before x (pairs_of (r ∷ rs)) ≡ x ∷ pairs_of (r ∷ rs)
-    go None e more = rw e more
-    go (Some v) e more = rw (e, lt-ltb x.key r.key h.0) refl
-
-all_past : (key : ℕ) (r : Row) (rs : List Row) → key ≤ r.key → Each (λ s. r.key < s.key) rs → Each (λ s. key < s.key) rs
-all_past key r rs le h = Each-map (λ s. r.key < s.key) (λ s. key < s.key) (λ s p. omega (arith, p, le)) rs h
-
-pub one_deleted : (key : ℕ) (rows : List Row) → IsOrdered rows → filter (λ p. not (p.key == key)) (pairs_of rows) ≡ pairs_of (put row_before (written key None) rows)
-one_deleted key [] h = refl
-one_deleted key (r ∷ rs) h =
-    elim (cases_order key r.key) [
-      | inl e ↦ rw (le-ltb key r.key (omega (arith, e)), le-ltb r.key key (omega (arith, e))) (here r.value refl e)
-      | inr k ↦ elim k [
-        | inl lt ↦ rw (lt-ltb key r.key lt) (untouched key (r ∷ rs) (lt, all_past key r rs (omega (arith, lt)) h.0))
-        | inr gt ↦ rw (le-ltb key r.key (omega (arith, gt)), lt-ltb r.key key gt) (further r.value refl gt (one_deleted key rs h.1))
-      ]
-    ]
-  where
-    here : (o : Option (List ℕ)) → r.value ≡ o → key ≡ r.key → filter (λ p. not (p.key == key)) (pairs_of (r ∷ rs)) ≡ pairs_of rs
-    here None e same = rw e (untouched key rs (all_past key r rs (omega (arith, same)) h.0))
-    here (Some v) e same = rw (e, eq-eqb r.key key (sym same)) (untouched key rs (all_past key r rs (omega (arith, same)) h.0))
-
-    further : (o : Option (List ℕ)) → r.value ≡ o → r.key < key → filter (λ p. not (p.key == key)) (pairs_of rs) ≡ pairs_of (put row_before (written key None) rs)
-        → filter (λ p. not (p.key == key)) (pairs_of (r ∷ rs)) ≡ pairs_of (r ∷ put row_before (written key None) rs)
-    further None e gt more = rw e more
-    further (Some v) e gt more = rw (e, ne_eqb r.key key (λ x. omega (arith, x, gt))) (ap (λ ps. record { key = r.key; value = v } ∷ ps) more)
-
-pub one_put : (key : ℕ) (value : List ℕ) (rows : List Row) → IsOrdered rows → put pair_before (record { key = key; value = value }) (pairs_of rows) ≡ pairs_of (put row_before (written key (Some value)) rows)
-one_put key value [] h = refl
-one_put key value (r ∷ rs) h =
-    elim (cases_order key r.key) [
-      | inl e ↦ rw (le-ltb key r.key (omega (arith, e)), le-ltb r.key key (omega (arith, e))) (here r.value refl e)
-      | inr k ↦ elim k [
-        | inl lt ↦ rw (lt-ltb key r.key lt) (put_below (record { key = key; value = value }) (r ∷ rs) (lt, all_past key r rs (omega (arith, lt)) h.0))
-        | inr gt ↦ rw (le-ltb key r.key (omega (arith, gt)), lt-ltb r.key key gt) (further r.value refl gt (one_put key value rs h.1))
-      ]
-    ]
-  where
-    here : (o : Option (List ℕ)) → r.value ≡ o → key ≡ r.key → put pair_before (record { key = key; value = value }) (pairs_of (r ∷ rs)) ≡ record { key = key; value = value } ∷ pairs_of rs
-    here None e same = rw e (put_below (record { key = key; value = value }) rs (all_past key r rs (omega (arith, same)) h.0))
-    here (Some v) e same = rw (e, le-ltb key r.key (omega (arith, same)), le-ltb r.key key (omega (arith, same))) refl
-
-    further : (o : Option (List ℕ)) → r.value ≡ o → r.key < key → put pair_before (record { key = key; value = value }) (pairs_of rs) ≡ pairs_of (put row_before (written key (Some value)) rs)
-        → put pair_before (record { key = key; value = value }) (pairs_of (r ∷ rs)) ≡ pairs_of (r ∷ put row_before (written key (Some value)) rs)
-    further None e gt more = rw e more
-    further (Some v) e gt more = rw (e, le-ltb key r.key (omega (arith, gt)), lt-ltb r.key key gt) (ap (λ ps. record { key = r.key; value = v } ∷ ps) more)
-
 one_write : (w : Write) (rows : List Row) → IsOrdered rows → after_write (pairs_of rows) w ≡ pairs_of (put row_before (written w.key w.value) rows)
-one_write w rows h = go w.value
-  where
-    go : (o : Option (List ℕ)) → option_map_or (λ v. put pair_before (record { key = w.key; value = v }) (pairs_of rows)) o (filter (λ p. not (p.key == w.key)) (pairs_of rows)) ≡ pairs_of (put row_before (written w.key o) rows)
-    go None = one_deleted w.key rows h
-    go (Some v) = one_put w.key v rows h
+one_write w rows h = one_row w.key 0 w.value rows h
 
 pub pairs_own : (rows : List Row) (writes : List Write) → IsOrdered rows → after_writes (pairs_of rows) writes ≡ pairs_of (own_rows rows writes)
 pairs_own rows [] h = refl

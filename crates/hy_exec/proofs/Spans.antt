@@ -9,14 +9,13 @@ use Rattle.std.proofs.lemmas.Bool.{cases_lt, eq-eqb, leb-true, lt-leb, le-leb}
 use Rattle.hy_base.specs.declared.record.Row.{Row}
 use Rattle.hy_base.specs.declared.report.Pair.{Pair}
 use Rattle.hy_base.specs.Entry.{is_in_span}
-use Rattle.hy_base.specs.Rows.{Each, IsOrdered}
+use Rattle.hy_base.specs.Rows.{Each, IsOrdered, rows_at}
 use Rattle.hy_base.proofs.EachLemmas.{Each-map}
 use Rattle.hy_base.proofs.RowLemmas.{ordered_applied}
 use Rattle.hy_base.specs.declared.record.Write.{Write}
-use Rattle.hy_base.specs.Rows.{rows_at}
 use Rattle.hy_base.specs.declared.record.Span.{Span}
 use Rattle.hy_rules.specs.Exec.{Effects, after_writes, read_span, scanned}
-use Rattle.hy_exec.proofs.Rising.{first}
+use Rattle.hy_rules.proofs.Rising.{first}
 use Rattle.hy_rules.specs.History.{pairs_of}
 use Rattle.hy_tree.specs.TreeRows.{first_from}
 use Rattle.hy_exec.specs.Scans.{key_and_value, own_rows, pair_of, still_to_come}

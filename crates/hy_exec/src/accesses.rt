@@ -2,11 +2,11 @@
 ghost use Rattle.std.specs.Prelude.{◌≡◌, ◌≤◌, ◌<◌, OnOk, OnErr, option_copied, find, length, nat_le, nat_lt, Some, if◌then◌else◌};
 ghost use Rattle.hy_base.specs.Lists.{put};
 ghost use Rattle.hy_base.specs.Entry.{write_before};
-ghost use Rattle.hy_base.specs.Shape.{IsWithin};
+ghost use Rattle.hy_base.specs.Limits.{IsClientNumber, IsServerNumber};
 ghost use Rattle.hy_base.specs.declared.record.EntryKind.TheVariants.{Txn};
 ghost use Rattle.hy_rules.specs.Exec.{no_effects, own_write, with_point, with_span, with_write, intention};
 ghost use Rattle.hy_rules.specs.EffectLaws.{AreInOrder};
-ghost use Rattle.hy_exec.specs.Running.{HoldsFew, has_written};
+ghost use Rattle.hy_exec.specs.Running.{HoldsFew, notes_write};
 
 use crate::order::put;
 use hy_base::{Entry, Intention, Items, Key, Pos, Span, Value, Write};
@@ -126,7 +126,7 @@ impl Accesses {
 
     /// Whether a key was given a value or deleted.
     pub(crate) fn has_written(&self) -> bool
-        ensures { result ≡ has_written self.now }
+        ensures { result ≡ notes_write self.now }
     {
         0 < self.writes.len()
     }
@@ -134,8 +134,8 @@ impl Accesses {
     /// What a client on a server appends.
     pub(crate) fn into_entry(self, server: u8, client: u8, snap: Pos) -> Entry
         requires written { 0 < length self.writes }
-        requires server { IsWithin 1 8 server }
-        requires client { IsWithin 1 128 client }
+        requires server { IsServerNumber server }
+        requires client { IsClientNumber client }
         ensures { result ≡ Txn (intention server client snap self) }
     {
         Entry::transaction(Intention {

@@ -1,10 +1,10 @@
 //! Runs programs.
 ghost use Rattle.std.specs.Prelude.{◌≡◌, ◌≤◌, IfOk, OnOk, OnErr};
-ghost use Rattle.hy_base.specs.Shape.{IsWithin};
+ghost use Rattle.hy_base.specs.Limits.{IsClientNumber, IsServerNumber};
 ghost use Rattle.hy_base.specs.Script.{IsCommand, IsProgram};
 ghost use Rattle.hy_rules.specs.History.{pairs_of};
 ghost use Rattle.hy_rules.specs.Exec.{exec, perform};
-ghost use Rattle.hy_exec.specs.Running.{HoldsFew, finished, with_effects};
+ghost use Rattle.hy_exec.specs.Running.{HoldsFew, finish_of, with_effects};
 
 use crate::txn::{Finished, Txn};
 use hy_base::{Answer, Answers, Command, Items, Pos, Program};
@@ -51,10 +51,10 @@ pub fn run_program(
     client: u8,
 ) -> Result<Executed, AllocError>
     requires program { IsProgram program.now }
-    requires server { IsWithin 1 8 server }
-    requires client { IsWithin 1 128 client }
+    requires server { IsServerNumber server }
+    requires client { IsClientNumber client }
     ensures answers { IfOk result (λ e. e.answers ≡ (exec program.now (pairs_of tree)).0) }
-    ensures finished { IfOk result (λ e. e.finished ≡ finished server client (record { at = at; pairs = pairs_of tree; effects = (exec program.now (pairs_of tree)).1 })) }
+    ensures finish_of { IfOk result (λ e. e.finished ≡ finish_of server client (record { at = at; pairs = pairs_of tree; effects = (exec program.now (pairs_of tree)).1 })) }
 {
     let mut txn = Txn::begin(alloc, tree, at);
     let mut answers = Items::new(alloc);

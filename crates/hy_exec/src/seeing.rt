@@ -3,18 +3,18 @@ ghost use Rattle.std.specs.Prelude.{◌≡◌, IfOk, option_copied, OnOk, OnErr}
 ghost use Rattle.std.specs.Option.{option_map_or};
 ghost use Rattle.hy_base.specs.declared.report.Answer.TheVariants.{Live, Absent};
 ghost use Rattle.hy_rules.specs.History.{pairs_of};
-ghost use Rattle.hy_rules.specs.Exec.{seen, value_at, sum_at, with_point, with_sum};
+ghost use Rattle.hy_rules.specs.Exec.{seen, value_in, sum_at, with_point, with_sum};
 ghost use Rattle.hy_exec.specs.Running.{HoldsFew};
 
 use crate::accesses::Accesses;
-use crate::number::{number_value, read_number};
-use hy_base::{Answer, Key, Value};
+use crate::number::number_value;
+use hy_base::{Answer, Key, Value, read_number};
 use hy_tree::Tree;
 use std::alloc::{AllocError, Global};
 
 // The live value of a key in the tree.
 fn value_at(tree: &Tree, key: Key) -> Option<&Value>
-    ensures { option_copied result ≡ value_at (pairs_of tree.now) key }
+    ensures { option_copied result ≡ value_in (pairs_of tree.now) key }
 {
     match tree.get(key) {
         None => None,

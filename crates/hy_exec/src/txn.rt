@@ -1,10 +1,10 @@
 //! A transaction.
 ghost use Rattle.std.specs.Prelude.{◌≡◌, ◌≤◌, IfOk, OnOk, OnErr};
-ghost use Rattle.hy_base.specs.Shape.{IsWithin};
+ghost use Rattle.hy_base.specs.Limits.{IsClientNumber, IsServerNumber};
 ghost use Rattle.hy_base.specs.declared.workload.Command.TheVariants.{Get, Put, Del, Add, Scan};
 ghost use Rattle.hy_rules.specs.History.{pairs_of};
 ghost use Rattle.hy_rules.specs.Exec.{no_effects, perform};
-ghost use Rattle.hy_exec.specs.Running.{HoldsFew, finished, with_effects};
+ghost use Rattle.hy_exec.specs.Running.{HoldsFew, finish_of, with_effects};
 
 use crate::accesses::Accesses;
 use crate::scanning::{read_span, scanned};
@@ -132,9 +132,9 @@ impl Txn {
 
     /// Ends the transaction of a client on a server: its entry exactly where it wrote.
     pub fn finish(self, server: u8, client: u8) -> Finished
-        requires server { IsWithin 1 8 server }
-        requires client { IsWithin 1 128 client }
-        ensures { result ≡ finished server client self }
+        requires server { IsServerNumber server }
+        requires client { IsClientNumber client }
+        ensures { result ≡ finish_of server client self }
     {
         if self.accesses.has_written() {
             Finished::Entry(self.accesses.into_entry(server, client, self.at))

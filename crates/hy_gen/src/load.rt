@@ -1,7 +1,7 @@
 //! A load of a seed and a size.
 ghost use Rattle.std.specs.Prelude.{◌≡◌, map, IfOk};
 ghost use Rattle.std.specs.List.{range_with_len};
-ghost use Rattle.hy_base.specs.Shape.{IsWithin};
+ghost use Rattle.hy_base.specs.Limits.{IsLoadSize};
 ghost use Rattle.hy_gen.specs.Load.{script_of, client_of, schedule_of};
 
 use crate::drawing::readers;
@@ -18,7 +18,7 @@ pub struct Load {
 }
 
 fn clients(alloc: Global, seed: u64, size: u32) -> Result<Clients, AllocError>
-    requires { IsWithin 1 80000 size }
+    requires { IsLoadSize size }
     ensures { IfOk result (λ clients. clients ≡ map (client_of seed size) (range_with_len 1 8)) }
 {
     let mut clients = Items::new(alloc);
@@ -30,7 +30,7 @@ fn clients(alloc: Global, seed: u64, size: u32) -> Result<Clients, AllocError>
 
 /// The load of a seed with so many programs (1 to 80,000). `AllocError`: out of memory.
 pub fn generate(alloc: Global, seed: u64, size: u32) -> Result<Load, AllocError>
-    requires { IsWithin 1 80000 size }
+    requires { IsLoadSize size }
     ensures exact { IfOk result (λ load. (load.script ≡ script_of seed size) × (load.events.items ≡ schedule_of seed size)) }
 {
     let shape = Shape {

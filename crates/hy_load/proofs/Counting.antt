@@ -11,8 +11,9 @@ use Rattle.hy_base.specs.declared.record.Write.{Write}
 use Rattle.hy_base.specs.Rows.{Each, rows_at}
 use Rattle.hy_base.proofs.EachLemmas.{Each-append}
 use Rattle.hy_base.proofs.RowLemmas.{Each-newest}
-use Rattle.hy_rules.specs.History.{committed_at, flagged_history, is_commit, pairs_of, writes_at}
-use Rattle.hy_rules.specs.Exec.{value_at}
+use Rattle.hy_rules.specs.History.{committed_at, flagged_history, pairs_of, writes_at}
+use Rattle.hy_base.specs.Verdicts.{is_commit}
+use Rattle.hy_rules.specs.Exec.{value_in}
 use Rattle.hy_rules.specs.Validation.{live, rows, verdicts_after}
 use Rattle.hy_load.specs.Laws.{CountsUpTo, EntryCounts}
 
@@ -51,8 +52,8 @@ pub rows_of_log : (bound : ℕ) (s : Shape) (log : List EntryKind) (pos : ℕ) �
 rows_of_log bound s log pos a = Each-newest (RowCounts bound) _ (history_counts bound 1 log (map is_commit (verdicts_after s log (pos / s.group))) a)
 
 -- the value that is found at a counted key
-found_next : (bound key : ℕ) (r : Row) (rs : List Row) → key < 500 → RowCounts bound r → (v : Option (List ℕ)) → r.value ≡ v → IsCountUpTo bound (value_at (pairs_of rs) key)
-    → IsCountUpTo bound (value_at (pairs_of (r ∷ rs)) key)
+found_next : (bound key : ℕ) (r : Row) (rs : List Row) → key < 500 → RowCounts bound r → (v : Option (List ℕ)) → r.value ≡ v → IsCountUpTo bound (value_in (pairs_of rs) key)
+    → IsCountUpTo bound (value_in (pairs_of (r ∷ rs)) key)
 found_next bound key r rs low a None is rest = rw is rest
 found_next bound key r rs low a (Some v) is rest =
     rw is (elim (cases_eq r.key key) [
@@ -60,9 +61,9 @@ found_next bound key r rs low a (Some v) is rest =
       | inr other ↦ rw (ne_eqb r.key key other) rest
     ])
 
-found : (bound key : ℕ) (rs : List Row) → key < 500 → Each (RowCounts bound) rs → IsCountUpTo bound (value_at (pairs_of rs) key)
+found : (bound key : ℕ) (rs : List Row) → key < 500 → Each (RowCounts bound) rs → IsCountUpTo bound (value_in (pairs_of rs) key)
 found bound key [] low a = tt
 found bound key (r ∷ rs) low a = found_next bound key r rs low a.0 r.value refl (found bound key rs low a.1)
 
-pub live_counts : (bound : ℕ) (s : Shape) (log : List EntryKind) (pos key : ℕ) → key < 500 → AllByRecursion (EntryCounts bound) log → IsCountUpTo bound (value_at (live s log pos) key)
+pub live_counts : (bound : ℕ) (s : Shape) (log : List EntryKind) (pos key : ℕ) → key < 500 → AllByRecursion (EntryCounts bound) log → IsCountUpTo bound (value_in (live s log pos) key)
 live_counts bound s log pos key low a = found bound key (rows s log pos) low (rows_of_log bound s log pos a)

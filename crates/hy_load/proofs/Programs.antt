@@ -11,7 +11,7 @@ use Rattle.hy_base.specs.declared.workload.Command.TheVariants.{Add}
 use Rattle.hy_base.specs.Entry.{write_before}
 use Rattle.hy_base.specs.Lists.{put}
 use Rattle.hy_base.proofs.NumberLemmas.{number_of_decimal}
-use Rattle.hy_rules.specs.Exec.{Effects, no_effects, own_write, perform, perform_all, exec, seen, sum_at, sum_of, value_at, with_point, with_sum}
+use Rattle.hy_rules.specs.Exec.{Effects, no_effects, own_write, perform, perform_all, exec, seen, sum_at, sum_of, value_in, with_point, with_sum}
 use Rattle.hy_gen.specs.declared.drawing.Draw.{Draw}
 use Rattle.hy_gen.specs.Draws.{draw_of, reads_only}
 use Rattle.hy_gen.specs.Load.{commands_by, program_numbered, value_numbered}
@@ -24,7 +24,7 @@ WritesCount bound ws = AllByRecursion (CountsUpTo bound) ws
 
 -- pairs in which the counted keys hold numbers
 abbrev pub PairsCount : ℕ → List Pair → Type 0
-PairsCount bound pairs = (key : ℕ) → key < 500 → IsCountUpTo bound (value_at pairs key)
+PairsCount bound pairs = (key : ℕ) → key < 500 → IsCountUpTo bound (value_in pairs key)
 
 more : (bound : ℕ) (ws : List Write) → WritesCount bound ws → WritesCount (bound + 1) ws
 more bound [] a = tt
@@ -96,7 +96,7 @@ add_put bound key pairs e low small p a =
     sum_put (bound + 1) key e (sum_at (seen pairs e key) 1) low (more bound e.writes a) (one_more bound (seen pairs e key) small (seen_counts bound key pairs e low p a))
 
 more_pairs : (bound : ℕ) (pairs : List Pair) → PairsCount bound pairs → PairsCount (bound + 1) pairs
-more_pairs bound pairs p key low = go (value_at pairs key) (p key low)
+more_pairs bound pairs p key low = go (value_in pairs key) (p key low)
   where
     go : (o : Option (List ℕ)) → IsCountUpTo bound o → IsCountUpTo (bound + 1) o
     go None h = tt

@@ -5,7 +5,7 @@ use Rattle.std.specs.List.{range_with_len}
 use Rattle.std.proofs.lemmas.List.FromFn.{length-map-range_with_len}
 use Rattle.hy_base.specs.declared.workload.Event.{Event}
 use Rattle.hy_base.specs.Script.{Workload}
-use Rattle.hy_base.specs.Shape.{IsWithin}
+use Rattle.hy_base.specs.Limits.{IsLoadSize}
 use Rattle.hy_rules.specs.Moves.{State, fresh_session}
 use Rattle.hy_rules.specs.Runs.{first_disabled, opening_of, run, step}
 use Rattle.hy_gen.specs.Draws.{reads_only}
@@ -35,7 +35,7 @@ record Ends (seed size : ℕ) : Type 0 where
   long : length end.log ≤ 4 * size
   counts : LogCounts end.log
 
-ends : (seed size : ℕ) → IsWithin 1 80000 size → Ends seed size
+ends : (seed size : ℕ) → IsLoadSize size → Ends seed size
 ends seed size within =
     let readers = readers_of seed size in
     let count : length readers ≡ size = length-map-range_with_len (reads_only seed) 0 size in

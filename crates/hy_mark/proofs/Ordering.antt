@@ -10,7 +10,7 @@ use Rattle.hy_base.specs.Entry.{span_before}
 use Rattle.hy_base.specs.Marks.{lesser, dep}
 use Rattle.hy_base.proofs.EachLemmas.{never}
 use Rattle.hy_mark.specs.Blocks.{IsBlock}
-use Rattle.hy_mark.specs.Orders.{IsBefore, AreOrdered, AreBlocks, ArePairs, IsFirst}
+use Rattle.hy_mark.specs.Orders.{IsBefore, AreOrdered, AreBlocks, ArePairs, IsFirstBlock}
 use Rattle.hy_mark.proofs.Facts.{all_append, all_map, all_left, all_right}
 use Rattle.hy_mark.proofs.Deps.{lesser_comm, lesser_assoc, lesser_none, dep_first, dep_append, dep_min, raise}
 
@@ -97,7 +97,7 @@ ordered_same (f ∷ fs) x y xs e a =
 
 -- ---- the first of two lists
 
-pub first_left : (x : Mark) (xs ys left : List Mark) → left ≡ x ∷ xs → AllByRecursion (IsBefore x) ys → IsFirst left ys x xs ys
+pub first_left : (x : Mark) (xs ys left : List Mark) → left ≡ x ∷ xs → AllByRecursion (IsBefore x) ys → IsFirstBlock left ys x xs ys
 first_left x xs ys left e c =
     rw e (record {
       deps = λ key. ap (λ o. lesser o (dep ys key)) (dep_first x xs key) ∙ lesser_assoc (dep (x ∷ []) key) (dep xs key) (dep ys key);
@@ -106,7 +106,7 @@ first_left x xs ys left e c =
       shorter = omega arith;
     })
 
-pub first_right : (y : Mark) (xs ys right : List Mark) → right ≡ y ∷ ys → AllByRecursion (IsBefore y) xs → IsFirst xs right y xs ys
+pub first_right : (y : Mark) (xs ys right : List Mark) → right ≡ y ∷ ys → AllByRecursion (IsBefore y) xs → IsFirstBlock xs right y xs ys
 first_right y xs ys right e c =
     rw e (record {
       deps = λ key.
@@ -124,7 +124,7 @@ shuffle a b c d =
     ∙ (ap (lesser a) (sym (lesser_assoc b c d) ∙ (ap (λ o. lesser o d) (lesser_comm b c) ∙ lesser_assoc c b d))
     ∙ sym (lesser_assoc a c (lesser b d)))
 
-pub first_both : (x y : Mark) (xs ys left right : List Mark) → left ≡ x ∷ xs → right ≡ y ∷ ys → y.block ≡ x.block → IsFirst left right (record { block = x.block; dependency = min x.dependency y.dependency }) xs ys
+pub first_both : (x y : Mark) (xs ys left right : List Mark) → left ≡ x ∷ xs → right ≡ y ∷ ys → y.block ≡ x.block → IsFirstBlock left right (record { block = x.block; dependency = min x.dependency y.dependency }) xs ys
 first_both x y xs ys left right e f same =
     let m : Mark = record { block = x.block; dependency = min x.dependency y.dependency } in
     rw (e, f) (record {
@@ -162,7 +162,7 @@ ordered_rest (x ∷ xs) ys a = ordered_rest xs ys a.1
 pub joins_none : (left right : List Mark) → ArePairs left → ArePairs right → Joins left right [] left right
 joins_none left right a b = record { deps = λ key. refl; left_ordered = a.ordered; right_ordered = b.ordered; each = tt; left_each = a.each; right_each = b.each }
 
-pub joins_more : {wl wr ms l r l' r' : List Mark} (m : Mark) → Joins wl wr ms l r → IsFirst l r m l' r' → Joins wl wr (ms ++ m ∷ []) l' r'
+pub joins_more : {wl wr ms l r l' r' : List Mark} (m : Mark) → Joins wl wr ms l r → IsFirstBlock l r m l' r' → Joins wl wr (ms ++ m ∷ []) l' r'
 joins_more {wl} {wr} {ms} {l} {r} {l'} {r'} m j f =
     let o = f.ordered ms j.left_ordered j.right_ordered in
     let b = f.blocks j.left_each j.right_each in

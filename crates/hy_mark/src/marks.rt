@@ -8,7 +8,7 @@ ghost use Rattle.hy_mark.specs.Blocks.{IsBlock};
 ghost use Rattle.hy_mark.specs.Orders.{IsMarkSet, known_if};
 
 use crate::covering::cover;
-use crate::pairs::Pairs;
+use crate::pairs::MarkList;
 use crate::written::Written;
 use hy_base::{Intention, Key, Mark, Pos, Row, Span, Write};
 use std::alloc::{AllocError, Global};
@@ -20,7 +20,7 @@ use std::marker::Model;
 /// their keys.
 #[derive(Debug, Drop)]
 pub struct Marks {
-    pairs: Pairs,
+    pairs: MarkList,
     writes: Written,
 }
 
@@ -42,7 +42,7 @@ fn one_key(key: Key) -> Span
 // Adds a mark of each block.
 fn mark_blocks(
     alloc: Global,
-    pairs: &mut Pairs,
+    pairs: &mut MarkList,
     blocks: &[Span],
     dependency: Pos,
 ) -> Result<(), AllocError>
@@ -56,10 +56,10 @@ fn mark_blocks(
 }
 
 // The marks of keys that were read by themselves.
-fn of_points(alloc: Global, points: &[Key], dependency: Pos) -> Result<Pairs, AllocError>
+fn of_points(alloc: Global, points: &[Key], dependency: Pos) -> Result<MarkList, AllocError>
     ensures { IfOk result (λ p. (key : ℕ) → dep p key ≡ known_if dependency (list_any (λ point. point == key) points.now)) }
 {
-    let mut pairs = Pairs::new(alloc);
+    let mut pairs = MarkList::new(alloc);
     for &key in points {
         let block = one_key(key);
         pairs.add(alloc, Mark { block, dependency })?;
@@ -68,10 +68,10 @@ fn of_points(alloc: Global, points: &[Key], dependency: Pos) -> Result<Pairs, Al
 }
 
 // The marks of keys that are written.
-fn of_writes(alloc: Global, writes: &[Write], dependency: Pos) -> Result<Pairs, AllocError>
+fn of_writes(alloc: Global, writes: &[Write], dependency: Pos) -> Result<MarkList, AllocError>
     ensures { IfOk result (λ p. (key : ℕ) → dep p key ≡ known_if dependency (list_any (λ w. w.key == key) writes.now)) }
 {
-    let mut pairs = Pairs::new(alloc);
+    let mut pairs = MarkList::new(alloc);
     for write in writes {
         let block = one_key(write.key);
         pairs.add(alloc, Mark { block, dependency })?;
@@ -80,20 +80,20 @@ fn of_writes(alloc: Global, writes: &[Write], dependency: Pos) -> Result<Pairs, 
 }
 
 // The marks of a span that was scanned.
-fn of_span(alloc: Global, span: Span, dependency: Pos) -> Result<Pairs, AllocError>
+fn of_span(alloc: Global, span: Span, dependency: Pos) -> Result<MarkList, AllocError>
     ensures { IfOk result (λ p. (key : ℕ) → dep p key ≡ known_if dependency (is_in_span key span)) }
 {
     let blocks = cover(alloc, span)?;
-    let mut pairs = Pairs::new(alloc);
+    let mut pairs = MarkList::new(alloc);
     mark_blocks(alloc, &mut pairs, blocks.as_slice(), dependency)?;
     Ok(pairs)
 }
 
 // The marks of spans that were scanned.
-fn of_spans(alloc: Global, spans: &[Span], dependency: Pos) -> Result<Pairs, AllocError>
+fn of_spans(alloc: Global, spans: &[Span], dependency: Pos) -> Result<MarkList, AllocError>
     ensures { IfOk result (λ p. (key : ℕ) → dep p key ≡ known_if dependency (list_any (is_in_span key) spans.now)) }
 {
-    let mut pairs = Pairs::new(alloc);
+    let mut pairs = MarkList::new(alloc);
     for &span in spans {
         let more = of_span(alloc, span, dependency)?;
         pairs = pairs.into_joined(alloc, more)?;
@@ -119,7 +119,7 @@ impl Marks {
         ensures { result ≡ record { pairs = []; writes = [] } }
     {
         Marks {
-            pairs: Pairs::new(alloc),
+            pairs: MarkList::new(alloc),
             writes: Written::new(alloc),
         }
     }

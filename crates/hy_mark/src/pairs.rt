@@ -5,7 +5,7 @@ ghost use Rattle.hy_base.specs.declared.record.Mark.{Mark};
 ghost use Rattle.hy_base.specs.Entry.{span_before, is_in_span};
 ghost use Rattle.hy_base.specs.Marks.{lesser, dep};
 ghost use Rattle.hy_mark.specs.Blocks.{IsBlock};
-ghost use Rattle.hy_mark.specs.Orders.{IsBefore, AreOrdered, ArePairs, IsFirst};
+ghost use Rattle.hy_mark.specs.Orders.{IsBefore, AreOrdered, ArePairs, IsFirstBlock};
 
 use hy_base::{Items, Mark, Pos, Span};
 use std::alloc::{AllocError, Global};
@@ -13,11 +13,11 @@ use std::marker::Model;
 
 /// Marks in the order of their blocks, each block at most once.
 #[derive(Debug, Drop)]
-pub struct Pairs {
+pub struct MarkList {
     marks: Items<Mark>,
 }
 
-impl Model for Pairs {
+impl Model for MarkList {
     ghost use Rattle.std.specs.Prelude.{List};
     ghost use Rattle.hy_base.specs.declared.record.Mark.{Mark};
     ghost use Rattle.hy_mark.specs.Orders.{ArePairs};
@@ -45,7 +45,7 @@ fn is_before(left: Span, right: Span) -> bool
 
 // The first mark of two lists in order. A block that both have has one mark, with the lesser dependency.
 fn first_of<'a>(left: &'a [Mark], right: &'a [Mark]) -> Option<First<'a>>
-    ensures { MatchOption result ((left.now ≡ []) × (right.now ≡ [])) (λ first. AreOrdered left.now → AreOrdered right.now → IsFirst left.now right.now first.mark first.left.now first.right.now) }
+    ensures { MatchOption result ((left.now ≡ []) × (right.now ≡ [])) (λ first. AreOrdered left.now → AreOrdered right.now → IsFirstBlock left.now right.now first.mark first.left.now first.right.now) }
 {
     match (left.split_first(), right.split_first()) {
         (None, None) => None,
@@ -85,12 +85,12 @@ fn first_of<'a>(left: &'a [Mark], right: &'a [Mark]) -> Option<First<'a>>
     }
 }
 
-impl Pairs {
+impl MarkList {
     /// No marks.
-    pub fn new(alloc: Global) -> Pairs
+    pub fn new(alloc: Global) -> MarkList
         ensures { result ≡ [] }
     {
-        Pairs {
+        MarkList {
             marks: Items::new(alloc),
         }
     }
@@ -104,7 +104,7 @@ impl Pairs {
     }
 
     /// The marks of both. A block that both have has the lesser dependency.
-    pub fn joined(&self, alloc: Global, other: &Pairs) -> Result<Pairs, AllocError>
+    pub fn joined(&self, alloc: Global, other: &MarkList) -> Result<MarkList, AllocError>
         ensures { IfOk result (λ p. (key : ℕ) → dep p key ≡ lesser (dep self.now key) (dep other.now key)) }
     {
         let room = self.marks.len().saturating_add(other.marks.len());
@@ -116,11 +116,11 @@ impl Pairs {
             left = first.left;
             right = first.right;
         }
-        Ok(Pairs { marks })
+        Ok(MarkList { marks })
     }
 
     /// The same, where the others are taken over.
-    pub fn with(&self, alloc: Global, other: Pairs) -> Result<Pairs, AllocError>
+    pub fn with(&self, alloc: Global, other: MarkList) -> Result<MarkList, AllocError>
         ensures { IfOk result (λ p. (key : ℕ) → dep p key ≡ lesser (dep self.now key) (dep other key)) }
     {
         if self.marks.len() == 0 {
@@ -130,20 +130,20 @@ impl Pairs {
     }
 
     // These marks, and then others behind them.
-    fn followed(self, other: Pairs) -> Result<Pairs, AllocError>
+    fn followed(self, other: MarkList) -> Result<MarkList, AllocError>
         requires { AllByRecursion (λ m. AllByRecursion (IsBefore m) other) self }
         ensures { IfOk result (λ p. (key : ℕ) → dep p key ≡ lesser (dep self key) (dep other key)) }
     {
         let mut marks = self.marks.into_vec();
         let mut behind = other.marks.into_vec();
         marks.append(&mut behind)?;
-        Ok(Pairs {
+        Ok(MarkList {
             marks: Items::from_vec(marks),
         })
     }
 
     // Whether each mark stands before all of the others.
-    fn stands_before(&self, other: &Pairs) -> bool
+    fn stands_before(&self, other: &MarkList) -> bool
         ensures { IsTrue result → AllByRecursion (λ m. AllByRecursion (IsBefore m) other.now) self.now }
     {
         match other.as_slice().split_first() {
@@ -153,7 +153,7 @@ impl Pairs {
     }
 
     /// The marks of both, which are taken over. Nothing is copied where one has none, or all of one stand before the other's.
-    pub fn into_joined(self, alloc: Global, other: Pairs) -> Result<Pairs, AllocError>
+    pub fn into_joined(self, alloc: Global, other: MarkList) -> Result<MarkList, AllocError>
         ensures { IfOk result (λ p. (key : ℕ) → dep p key ≡ lesser (dep self key) (dep other key)) }
     {
         if self.stands_before(&other) {
@@ -184,12 +184,12 @@ impl Pairs {
         }
         let mut one = Items::new(alloc);
         one.push(mark)?;
-        *self = self.joined(alloc, &Pairs { marks: one })?;
+        *self = self.joined(alloc, &MarkList { marks: one })?;
         Ok(())
     }
 
     /// The marks with each dependency raised to the base.
-    pub fn raised(&self, alloc: Global, base: Pos) -> Result<Pairs, AllocError>
+    pub fn raised(&self, alloc: Global, base: Pos) -> Result<MarkList, AllocError>
         ensures { IfOk result (λ p. (key : ℕ) → dep p key ≡ option_map (λ d. max d base) (dep self.now key)) }
     {
         let mut marks = Items::from_vec(Vec::with_capacity(alloc, self.marks.len())?);
@@ -197,6 +197,6 @@ impl Pairs {
             let dependency = dependency.max(base);
             marks.push(Mark { block, dependency })?;
         }
-        Ok(Pairs { marks })
+        Ok(MarkList { marks })
     }
 }

@@ -3,7 +3,7 @@ use Rattle.std.specs.Prelude.{◌≡◌, ℕ, ◌+◌, ◌≤◌, List, length, 
 use Rattle.hy_disk.specs.Content.{Content}
 use Rattle.hy_mem.specs.declared.memory.MemDisk.{MemDisk}
 use Rattle.hy_mem.specs.declared.room.Room.{Room}
-use Rattle.hy_mem.specs.Calls.{Plan, IsSound, IsBefore, spare}
+use Rattle.hy_mem.specs.Calls.{DevicePlan, IsSoundPlan, IsEarlierCall, spare}
 use Rattle.hy_mem.specs.History.{LeftSince}
 
 -- what it holds
@@ -11,7 +11,7 @@ abbrev pub content_of : MemDisk → Content
 content_of disk = disk.store.content
 
 -- its calls, and which of them fail
-abbrev pub plan_of : MemDisk → Plan
+abbrev pub plan_of : MemDisk → DevicePlan
 plan_of disk = disk.calls
 
 -- how much it can still take
@@ -32,7 +32,7 @@ Strikes disk k = disk.calls.armed ≡ Some k
 
 -- So many writes and syncs, of so many bytes in all, don't fail, nor does a call between them.
 pub record HasRoom (disk : MemDisk) (k b : ℕ) : Type 0 where
-  pub sound : IsSound disk.calls
-  pub before : IsBefore k disk.calls.armed
+  pub sound : IsSoundPlan disk.calls
+  pub before : IsEarlierCall k disk.calls.armed
   pub calls : k + spare disk.calls.armed ≤ disk.room.calls
   pub bytes : b ≤ disk.room.bytes

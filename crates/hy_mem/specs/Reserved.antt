@@ -1,11 +1,11 @@
 -- The room of a device in memory.
 use Rattle.std.specs.Prelude.{◌+◌, ◌≤◌, length}
 use Rattle.hy_mem.specs.declared.room.Room.{Room}
-use Rattle.hy_mem.specs.History.{Course}
+use Rattle.hy_mem.specs.History.{Past}
 use Rattle.hy_mem.specs.Store.{Stored}
 
 -- its buffers have place for this room, and for a new beginning with all bytes
-pub record IsReserved (room : Room) (store : Stored) (past : Course) : Type 0 where
+pub record IsReserved (room : Room) (store : Stored) (past : Past) : Type 0 where
   pub store_calls : room.calls ≤ store.calls
   pub store_bytes : room.bytes ≤ store.bytes
   pub past_calls : room.calls ≤ past.calls

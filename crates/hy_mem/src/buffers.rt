@@ -1,7 +1,7 @@
 //! Changes to buffers of bytes, none of which takes memory but [`reserve_to`].
 ghost use Rattle.std.specs.Prelude.{◌≡◌, ◌+◌, ◌-◌, ◌≤◌, length, take, drop, min, max, replicate, OnOk, vec_capacity};
 ghost use Rattle.hy_disk.specs.Content.{Image, overwritten};
-ghost use Rattle.hy_disk.specs.Stops.{scorched};
+ghost use Rattle.hy_disk.specs.Stops.{ff_filled};
 
 use std::alloc::AllocError;
 
@@ -71,8 +71,8 @@ fn copy_range(bytes: &mut Vec<u8>, from: &[u8], place: usize, count: usize)
 }
 
 /// Fills each range with 0xFF, as far as the bytes go.
-pub fn scorch(bytes: &mut Vec<u8>, ranges: &[(usize, usize)])
-    ensures filled { bytes.new.items ≡ scorched bytes.old.items ranges.now }
+pub fn fill_with_ff(bytes: &mut Vec<u8>, ranges: &[(usize, usize)])
+    ensures filled { bytes.new.items ≡ ff_filled bytes.old.items ranges.now }
     ensures len { length bytes.new.items ≡ length bytes.old.items }
     ensures capacity { vec_capacity bytes.new ≡ vec_capacity bytes.old }
 {

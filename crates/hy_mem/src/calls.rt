@@ -2,7 +2,7 @@
 ghost use Rattle.std.specs.Prelude.{◌≡◌, ◌-◌, ◌||◌, Some, IfOk, is_err, if◌then◌else◌};
 ghost use Rattle.std.specs.Option.{option_map};
 ghost use Rattle.hy_base.specs.Faults.{HasCause};
-ghost use Rattle.hy_mem.specs.Calls.{after_change, after_read, change_fails, cleared, counted, fails_by_number, fresh_plan, read_fails, strikes_within};
+ghost use Rattle.hy_mem.specs.Calls.{after_change, after_read, change_fails, cleared, counted_call, fails_by_number, fresh_device_plan, read_fails, strikes_within};
 
 use hy_disk::Failed;
 use std::alloc::{AllocError, Global};
@@ -10,7 +10,7 @@ use std::marker::Model;
 
 /// Counts the calls and the faults, and says which calls fail.
 #[derive(Drop)]
-pub struct Calls {
+pub struct DeviceCalls {
     /// The numbers of the calls that fail, from 1.
     fails: Vec<u64>,
     /// The number of the last call that doesn't fail, if there is one.
@@ -21,19 +21,19 @@ pub struct Calls {
     faults: u64,
 }
 
-impl Model for Calls {
-    ghost use Rattle.hy_mem.specs.Calls.{Plan};
+impl Model for DeviceCalls {
+    ghost use Rattle.hy_mem.specs.Calls.{DevicePlan};
 
-    ghost Value = { Plan };
+    ghost Value = { DevicePlan };
 
     ghost view = { λ c. record { fails = c.fails.items; passes = c.passes; armed = c.armed; made = c.made; faults = c.faults } };
 }
 
-impl Calls {
-    pub fn new(alloc: Global, fails: &[u64], passes: Option<u64>) -> Result<Calls, AllocError>
-        ensures { IfOk result (λ calls. calls ≡ fresh_plan fails.now passes) }
+impl DeviceCalls {
+    pub fn new(alloc: Global, fails: &[u64], passes: Option<u64>) -> Result<DeviceCalls, AllocError>
+        ensures { IfOk result (λ calls. calls ≡ fresh_device_plan fails.now passes) }
     {
-        Ok(Calls {
+        Ok(DeviceCalls {
             fails: fails.to_vec(alloc)?,
             passes,
             armed: None,
@@ -88,7 +88,7 @@ impl Calls {
     /// Counts a call, and says whether it fails by its number.
     fn count(&mut self) -> bool
         ensures answer { result ≡ fails_by_number self.old }
-        ensures after { self.new ≡ record self.old { made = counted self.old.made } }
+        ensures after { self.new ≡ record self.old { made = counted_call self.old.made } }
     {
         self.made = self.made.saturating_add(1);
         let is_past = match self.passes {
@@ -115,7 +115,7 @@ impl Calls {
     /// The answer of a call, which is a fault where it fails.
     fn answer(&mut self, fails: bool) -> Result<(), Failed>
         ensures fails { is_err result ≡ fails }
-        ensures after { self.new ≡ record self.old { faults = if fails then counted self.old.faults else self.old.faults } }
+        ensures after { self.new ≡ record self.old { faults = if fails then counted_call self.old.faults else self.old.faults } }
         ensures cause { HasCause self.old.faults self.new.faults result }
     {
         if fails {

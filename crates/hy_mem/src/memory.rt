@@ -1,16 +1,16 @@
 //! A device in memory.
 ghost use Rattle.std.specs.Prelude.{◌≡◌, ◌+◌, ◌-◌, ◌^◌, ◌<◌, ◌≤◌, ◌||◌, ℕ, [], length, min, true, not, Some, None, IfOk, OnOk, is_err, is_ok, if◌then◌else◌};
 ghost use Rattle.hy_base.specs.Faults.{HasCause};
-ghost use Rattle.hy_disk.specs.Content.{Image, settled, after_write, read_into};
+ghost use Rattle.hy_disk.specs.Content.{Image, settled, with_pending, read_into};
 ghost use Rattle.hy_disk.specs.Moments.{Elapses};
 ghost use Rattle.hy_disk.specs.Stops.{stopped};
 ghost use Rattle.hy_disk.specs.Strikes.{IsUnarmed};
-ghost use Rattle.hy_mem.specs.Calls.{fresh_plan, cleared, read_fails, change_fails, after_read, after_change};
+ghost use Rattle.hy_mem.specs.Calls.{fresh_device_plan, cleared, read_fails, change_fails, after_read, after_change};
 ghost use Rattle.hy_mem.specs.History.{replay};
 ghost use Rattle.hy_mem.specs.Reserved.{IsReserved};
 ghost use Rattle.hy_mem.specs.Room.{is_room_for, room_after, widened};
 
-use crate::calls::Calls;
+use crate::calls::DeviceCalls;
 use crate::past::Past;
 use crate::room::Room;
 use crate::store::Store;
@@ -25,7 +25,7 @@ use std::alloc::{AllocError, Global};
 pub struct MemDisk {
     store: Store,
     past: Past,
-    calls: Calls,
+    calls: DeviceCalls,
     room: Room,
     ghost replayed: { replay past.first past.events ≡ store.content },
     ghost reserved: { IsReserved room store past },
@@ -38,7 +38,7 @@ impl MemDisk {
     /// of memory is the one error.
     pub fn new(alloc: Global, bytes: &[u8], fails: &[u64]) -> Result<MemDisk, AllocError>
         ensures content { IfOk result (λ disk. content_of disk ≡ settled bytes.now) }
-        ensures plan { IfOk result (λ disk. plan_of disk ≡ fresh_plan fails.now None) }
+        ensures plan { IfOk result (λ disk. plan_of disk ≡ fresh_device_plan fails.now None) }
         ensures room { IfOk result (λ disk. room_of disk ≡ record { calls = 0; bytes = 0 }) }
         ensures has_room { IfOk result (λ disk. fails.now ≡ [] → HasRoom disk 0 0) }
         ensures unarmed { IfOk result (λ disk. IsUnarmed (Strikes disk)) }
@@ -50,7 +50,7 @@ impl MemDisk {
     /// Want of memory is the one error.
     pub fn fused(alloc: Global, bytes: &[u8], calls: u64) -> Result<MemDisk, AllocError>
         ensures content { IfOk result (λ disk. content_of disk ≡ settled bytes.now) }
-        ensures plan { IfOk result (λ disk. plan_of disk ≡ fresh_plan [] (Some calls)) }
+        ensures plan { IfOk result (λ disk. plan_of disk ≡ fresh_device_plan [] (Some calls)) }
         ensures room { IfOk result (λ disk. room_of disk ≡ record { calls = 0; bytes = 0 }) }
     {
         MemDisk::planned(alloc, bytes, &[], Some(calls))
@@ -63,13 +63,13 @@ impl MemDisk {
         passes: Option<u64>,
     ) -> Result<MemDisk, AllocError>
         ensures content { IfOk result (λ disk. content_of disk ≡ settled bytes.now) }
-        ensures plan { IfOk result (λ disk. plan_of disk ≡ fresh_plan fails.now passes) }
+        ensures plan { IfOk result (λ disk. plan_of disk ≡ fresh_device_plan fails.now passes) }
         ensures room { IfOk result (λ disk. room_of disk ≡ record { calls = 0; bytes = 0 }) }
     {
         Ok(MemDisk {
             store: Store::new(alloc, bytes)?,
             past: Past::new(alloc, bytes)?,
-            calls: Calls::new(alloc, fails, passes)?,
+            calls: DeviceCalls::new(alloc, fails, passes)?,
             room: Room { calls: 0, bytes: 0 },
         })
     }
@@ -176,7 +176,7 @@ impl Disk for MemDisk {
         requires fits { place + length bytes.now < 2 ^ 64 }
         ensures fails { is_err result ≡ (not (is_room_for (length bytes.now) (room_of self.old)) || change_fails (plan_of self.old)) }
         ensures plan { plan_of self.new ≡ after_change (plan_of self.old) (is_err result) }
-        ensures after { content_of self.new ≡ (if is_room_for (length bytes.now) (room_of self.old) then after_write (content_of self.old) place bytes.now else content_of self.old) }
+        ensures after { content_of self.new ≡ (if is_room_for (length bytes.now) (room_of self.old) then with_pending (content_of self.old) place bytes.now else content_of self.old) }
         ensures room_left { room_of self.new ≡ (if is_room_for (length bytes.now) (room_of self.old) then room_after (length bytes.now) (room_of self.old) else room_of self.old) }
         ensures time { Elapses (moment_of self.old) (moment_of self.new) (left_since_of self.old) (left_since_of self.new) (content_of self.new) }
         ensures cause { HasCause (plan_of self.old).faults (plan_of self.new).faults result }

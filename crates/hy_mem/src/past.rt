@@ -23,12 +23,12 @@ pub struct Past {
 
 impl Model for Past {
     ghost use Rattle.std.specs.Prelude.{◌≡◌, ◌-◌, length, vec_capacity};
-    ghost use Rattle.hy_mem.specs.History.{Course};
-    ghost use Rattle.hy_mem.specs.Changes.{history, spent};
+    ghost use Rattle.hy_mem.specs.History.{Past};
+    ghost use Rattle.hy_mem.specs.Changes.{past_of, spent};
 
-    ghost Value = { Course };
+    ghost Value = { Past };
 
-    ghost view = { λ p. record { first = p.first.items; events = history p.changes.items p.written.items; calls = vec_capacity p.changes - length p.changes.items; bytes = vec_capacity p.written - length p.written.items; most = vec_capacity p.first } };
+    ghost view = { λ p. record { first = p.first.items; events = past_of p.changes.items p.written.items; calls = vec_capacity p.changes - length p.changes.items; bytes = vec_capacity p.written - length p.written.items; most = vec_capacity p.first } };
 
     ghost invariant = { λ p. spent p.changes.items ≡ length p.written.items };
 }

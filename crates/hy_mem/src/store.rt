@@ -1,9 +1,9 @@
 //! The bytes of a device in memory.
 ghost use Rattle.std.specs.Prelude.{◌≡◌, ◌+◌, ◌<◌, ◌≤◌, length, IfOk, OnOk};
-ghost use Rattle.hy_disk.specs.Content.{settled, after_write};
+ghost use Rattle.hy_disk.specs.Content.{settled, with_pending};
 ghost use Rattle.hy_disk.specs.Stops.{stopped};
 
-use crate::buffers::{copy_to, overwrite, refresh, reserve_to, scorch};
+use crate::buffers::{copy_to, fill_with_ff, overwrite, refresh, reserve_to};
 use std::alloc::{AllocError, Global};
 use std::marker::Model;
 
@@ -50,7 +50,7 @@ impl Store {
         requires within { place ≤ length self.old.content.seen }
         requires calls { 0 < self.old.calls }
         requires bytes { length piece.now ≤ self.old.bytes }
-        ensures content { self.new.content ≡ after_write self.old.content place piece.now }
+        ensures content { self.new.content ≡ with_pending self.old.content place piece.now }
         ensures calls { self.old.calls ≤ self.new.calls + 1 }
         ensures bytes { self.old.bytes ≤ self.new.bytes + length piece.now }
     {
@@ -81,7 +81,7 @@ impl Store {
         match pattern {
             0 => copy_to(&mut self.bytes, &self.synced),
             1 => {}
-            _ => scorch(&mut self.bytes, &self.pending),
+            _ => fill_with_ff(&mut self.bytes, &self.pending),
         }
         copy_to(&mut self.synced, &self.bytes);
         self.pending.clear();

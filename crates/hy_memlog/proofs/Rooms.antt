@@ -1,20 +1,20 @@
 -- Room for appends.
 use Rattle.std.proofs.Common.{◌≡◌, ◌∙◌, ℕ, suc, ◌+◌, ◌*◌, ◌≤◌, Option, Some, None, ap, sym, subst, arith}
 use Rattle.std.proofs.Math.Nat.{mul-le-mul_right, suc-mul}
-use Rattle.hy_rules.specs.LogFormat.{page_count}
+use Rattle.hy_formats.specs.LogFormat.{page_count}
 use Rattle.hy_mem.specs.declared.memory.MemDisk.{MemDisk}
-use Rattle.hy_mem.specs.Calls.{IsSound, IsBefore, spare}
+use Rattle.hy_mem.specs.Calls.{IsSoundPlan, IsEarlierCall, spare}
 use Rattle.hy_disk.specs.Strikes.{IsUnarmed}
 use Rattle.hy_mem.specs.MemDisk.{HasRoom, Strikes}
 use Rattle.hy_mem.specs.RoomLaws.{room_shrinks}
-use Rattle.hy_log.specs.View.{View}
+use Rattle.hy_log.specs.View.{LogView}
 use Rattle.hy_memlog.specs.Pages.{HasRoomFor}
 
 -- a device with this room, on which nothing is ordered to fail
-pub unarmed_room : (disk : MemDisk) (k b : ℕ) → IsSound disk.calls → disk.calls.armed ≡ None → k ≤ disk.room.calls → b ≤ disk.room.bytes → HasRoom disk k b
+pub unarmed_room : (disk : MemDisk) (k b : ℕ) → IsSoundPlan disk.calls → disk.calls.armed ≡ None → k ≤ disk.room.calls → b ≤ disk.room.bytes → HasRoom disk k b
 unarmed_room disk k b sound armed calls bytes = record {
   sound = sound;
-  before = subst (λ (a : Option ℕ). IsBefore k a) (sym armed) tt;
+  before = subst (λ (a : Option ℕ). IsEarlierCall k a) (sym armed) tt;
   calls = subst (λ (a : Option ℕ). k + spare a ≤ disk.room.calls) (sym armed) (omega (arith, calls));
   bytes = bytes;
 }
@@ -33,7 +33,7 @@ pub one_alone : (disk : MemDisk) (p : ℕ) → HasRoom disk (4 * 1) (1 * (1 + 25
 one_alone disk p room = room_shrinks disk 4 (4 * 1) (1 + 256 * p) (1 * (1 + 256 * p)) room (omega arith) (omega arith)
 
 -- for fewer
-pub ready_fewer : (size m n : ℕ) (log : View MemDisk) → m ≤ n → HasRoomFor size n log → HasRoomFor size m log
+pub ready_fewer : (size m n : ℕ) (log : LogView MemDisk) → m ≤ n → HasRoomFor size n log → HasRoomFor size m log
 ready_fewer size m n log fewer ready = record {
   steady = ready.steady;
   places = omega (arith, ready.places, fewer);

@@ -10,8 +10,8 @@ use Rattle.hy_disk.specs.Content.{Content}
 use Rattle.hy_disk.specs.Stops.{stopped}
 use Rattle.hy_log.specs.declared.log.AppendError.{AppendError}
 use Rattle.hy_log.specs.declared.log.AppendError.TheVariants as appending
-use Rattle.hy_log.specs.View.{View, Holds}
-use Rattle.hy_rules.specs.LogFormat.{page_count}
+use Rattle.hy_log.specs.View.{LogView, Holds}
+use Rattle.hy_formats.specs.LogFormat.{page_count}
 use Rattle.hy_mem.specs.declared.memory.MemDisk.{MemDisk}
 use Rattle.hy_mem.specs.MemDisk.{HasRoom, Strikes}
 use Rattle.hy_mem.specs.RoomLaws.{room_shrinks}
@@ -85,15 +85,15 @@ struck shape bodies body stop result content is behind gate = elim (cases_lt sto
 -- ---- an append on a device on which a call was ordered to fail
 
 -- the log as it was, but for the order
-abbrev pub IsSame : View MemDisk → View MemDisk → Type 0
+abbrev pub IsSame : LogView MemDisk → LogView MemDisk → Type 0
 IsSame armed log = armed ≡ record log { disk = armed.disk }
 
 -- the append's clauses on the order
-abbrev pub WhereOrdered : View MemDisk → ℕ → ℕ → ℕ → Type 0 → Type 0
+abbrev pub WhereOrdered : LogView MemDisk → ℕ → ℕ → ℕ → Type 0 → Type 0
 WhereOrdered armed size low high P =
     length armed.bodies ≢ armed.shape.cap → armed.stopped ≡ None → (k : ℕ) → low ≤ k → k ≤ high → Strikes armed.disk k → HasRoom armed.disk (k - 1) (1 + 256 * page_count size) → P
 
-pub strike_leaves : (log armed : View MemDisk) (body : List ℕ) (stop : ArmedStop) (call : ℕ) (result : Appended) (content : Content)
+pub strike_leaves : (log armed : LogView MemDisk) (body : List ℕ) (stop : ArmedStop) (call : ℕ) (result : Appended) (content : Content)
     → HasRoomFor (length body) 1 log → length log.bodies < log.shape.cap → IsStop stop → call ≡ stop.call → IsSame armed log → Strikes armed.disk call
     → ((b : ℕ) → HasRoom log.disk call b → HasRoom armed.disk (call - 1) b)
     → WhereOrdered armed (length body) 1 2 (Behind armed.shape armed.bodies result content)
@@ -101,10 +101,10 @@ pub strike_leaves : (log armed : View MemDisk) (body : List ℕ) (stop : ArmedSt
     → IsStruck log.shape log.bodies body stop result content
 strike_leaves log armed body stop call result content ready some is_stop is same strikes room behind gate =
     let pages : ℕ = 1 + 256 * page_count (length body) in
-    let shape : armed.shape ≡ log.shape = ap (λ (v : View MemDisk). v.shape) same in
-    let bodies : armed.bodies ≡ log.bodies = ap (λ (v : View MemDisk). v.bodies) same in
+    let shape : armed.shape ≡ log.shape = ap (λ (v : LogView MemDisk). v.shape) same in
+    let bodies : armed.bodies ≡ log.bodies = ap (λ (v : LogView MemDisk). v.bodies) same in
     let more : length armed.bodies ≢ armed.shape.cap = λ full. omega (arith, full, some, ap length bodies, ap (λ (s : Shape). s.cap) shape) in
-    let running : armed.stopped ≡ None = ap (λ (v : View MemDisk). v.stopped) same ∙ ready.steady.running in
+    let running : armed.stopped ≡ None = ap (λ (v : LogView MemDisk). v.stopped) same ∙ ready.steady.running in
     let least : 1 ≤ call = omega (arith, is, is_stop.call.at_least) in
     let most : call ≤ 4 = omega (arith, is, is_stop.call.at_most) in
     let left : HasRoom armed.disk (call - 1) pages = room pages (room_shrinks log.disk call (4 * 1) pages (1 * (1 + 256 * page_count (length body))) ready.pages (omega (arith, most)) (omega arith)) in

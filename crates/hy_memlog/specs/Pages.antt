@@ -3,12 +3,12 @@ use Rattle.std.specs.Prelude.{◌≡◌, ℕ, ◌+◌, ◌*◌, ◌≤◌, List,
 use Rattle.hy_base.specs.declared.layout.Shape.{Shape}
 use Rattle.hy_base.specs.declared.workload.ArmedStop.{ArmedStop}
 use Rattle.hy_base.specs.Shape.{IsWithin}
-use Rattle.hy_rules.specs.LogFormat.{page_count}
+use Rattle.hy_formats.specs.LogFormat.{page_count}
 use Rattle.hy_rules.specs.Moves.{surviving}
 use Rattle.hy_disk.specs.Strikes.{IsUnarmed}
 use Rattle.hy_mem.specs.declared.memory.MemDisk.{MemDisk}
 use Rattle.hy_mem.specs.MemDisk.{HasRoom, Strikes}
-use Rattle.hy_log.specs.View.{View}
+use Rattle.hy_log.specs.View.{LogView}
 
 -- its shape and its bodies. There are none once memory ran out in a new opening: the log is broken
 pub record Pages : Type 0 where
@@ -16,14 +16,14 @@ pub record Pages : Type 0 where
   pub bodies : Option (List (List ℕ))
 
 -- nothing is ordered to fail, nothing has failed, and no body waits to be written
-pub record IsSteady (log : View MemDisk) : Type 0 where
+pub record IsSteady (log : LogView MemDisk) : Type 0 where
   pub running : log.stopped ≡ None
   pub nothing_waits : log.batch ≡ []
   pub unarmed : IsUnarmed (Strikes log.disk)
   pub room : HasRoom log.disk 0 0
 
 -- and a body of this size can be appended so many times without memory
-pub record HasRoomFor (size count : ℕ) (log : View MemDisk) : Type 0 where
+pub record HasRoomFor (size count : ℕ) (log : LogView MemDisk) : Type 0 where
   pub steady : IsSteady log
   pub places : count ≤ log.spare
   pub pages : HasRoom log.disk (4 * count) (count * (1 + 256 * page_count size))
@@ -42,6 +42,6 @@ abbrev pub broken_log : Pages → Pages
 broken_log p = record p { bodies = None }
 
 -- a log of this shape at rest
-pub record IsAtRest (shape : Shape) (log : View MemDisk) : Type 0 where
+pub record IsAtRest (shape : Shape) (log : LogView MemDisk) : Type 0 where
   pub shape_is : log.shape ≡ shape
   pub steady : IsSteady log

@@ -1,7 +1,7 @@
 //! The page log under it: room before each append, a stop in one, and what is opened then.
 ghost use Rattle.std.specs.Prelude.{◌≡◌, ◌≢◌, ◌+◌, ◌*◌, ◌<◌, ◌≤◌, ◌++◌, [], ◌∷◌, ℕ, List, length, replicate, Ok, Some, None, IfOk, IfErr, OnOk};
 ghost use Rattle.hy_base.specs.Shape.{IsGoodShape};
-ghost use Rattle.hy_rules.specs.LogFormat.{IsBody, page_count};
+ghost use Rattle.hy_formats.specs.LogFormat.{IsBody, page_count};
 ghost use Rattle.hy_disk.specs.Strikes.{IsUnarmed};
 ghost use Rattle.hy_mem.specs.MemDisk.{content_of, plan_of, room_of, HasRoom, Strikes};
 ghost use Rattle.hy_log.specs.View.{Holds};
@@ -10,7 +10,7 @@ ghost use Rattle.hy_memlog.specs.Pages.{IsSteady, HasRoomFor, IsStop, with_body}
 
 use hy_base::{ArmedStop, Shape};
 use hy_disk::Tuned;
-use hy_log::{AppendError, OpenError, PageLog, Refused, open_log};
+use hy_log::{AppendError, OpenError, PageLog, RefusedLog, open_log};
 use hy_mem::MemDisk;
 use hy_pages::pages_of;
 use std::alloc::{AllocError, Global};
@@ -58,14 +58,14 @@ pub fn put_all(log: &mut PageLog<MemDisk>, body: &[u8], count: usize)
 
 // The log, where it was opened. A device that doesn't fail is refused for want of memory alone.
 fn opened(
-    answer: Result<PageLog<MemDisk>, Refused<MemDisk>>,
+    answer: Result<PageLog<MemDisk>, RefusedLog<MemDisk>>,
 ) -> Result<PageLog<MemDisk>, AllocError>
     requires { IfErr answer (λ refused. refused.error ≡ opening.Memory) }
     ensures { IfOk result (λ log. answer ≡ Ok log) }
 {
     match answer {
         Ok(log) => Ok(log),
-        Err(Refused { error, .. }) => match error {
+        Err(RefusedLog { error, .. }) => match error {
             OpenError::Memory => Err(AllocError),
             _ => unreachable!(),
         },

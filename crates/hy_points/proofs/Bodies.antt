@@ -9,12 +9,12 @@ use Rattle.hy_base.specs.declared.record.Row.{Row}
 use Rattle.hy_base.specs.Shape.{IsGoodShape, IsWithin}
 use Rattle.hy_base.specs.Value.{IsValue}
 use Rattle.hy_base.specs.Rows.{Each, IsOrdered}
-use Rattle.hy_rules.specs.declared.damage.Damage.TheVariants as damage
-use Rattle.hy_rules.specs.Reading.{AreBytes, ◌>>=◌, requiring, items_at}
+use Rattle.hy_formats.specs.declared.damage.Damage.TheVariants as damage
+use Rattle.hy_formats.specs.Reading.{AreBytes, ◌>>=◌, requiring, items_at}
 use Rattle.hy_codec.proofs.Numbers.{Takes, then_takes, bind_ok, ok_is, required}
 use Rattle.hy_codec.proofs.Items.{items_take, items_again}
-use Rattle.hy_rules.specs.Checkpoint.{Checkpoint, IsCheckpoint}
-use Rattle.hy_rules.specs.PointFormat.{PointHead, IsStorable, row_bytes, flag_bytes, body_bytes, point_head_at, saved_row_at, flag_at, checkpoint_by, point_body_at, whole_point_body}
+use Rattle.hy_formats.specs.Checkpoint.{Checkpoint, IsCheckpoint}
+use Rattle.hy_formats.specs.PointFormat.{PointHead, IsStorable, row_bytes, flag_bytes, body_bytes, point_head_at, saved_row_at, flag_at, checkpoint_by, point_body_at, whole_point_body}
 use Rattle.hy_points.proofs.Bases.{base_is_before}
 use Rattle.hy_points.proofs.Heads.{head_text, IsGoodHead, head_takes, head_again}
 use Rattle.hy_points.proofs.Rows.{IsGoodRow, row_takes, row_again, ordered_of, rises_of, any_order, IsFlag, flag_takes, flag_again, flags_rise, are_flags}

@@ -5,13 +5,13 @@ use Rattle.std.specs.Int.{w8, w32, w64, to_le_bytes}
 use Rattle.std.proofs.lemmas.Bool.{eqb-true}
 use Rattle.hy_base.specs.declared.layout.Shape.{Shape}
 use Rattle.hy_base.specs.Shape.{IsGoodShape}
-use Rattle.hy_rules.specs.declared.damage.Damage.{Damage}
-use Rattle.hy_rules.specs.declared.damage.Damage.TheVariants as damage
-use Rattle.hy_rules.specs.Reading.{AreBytes, Refusal, ◌>>=◌, requiring, number_at, ranged_at}
+use Rattle.hy_formats.specs.declared.damage.Damage.{Damage}
+use Rattle.hy_formats.specs.declared.damage.Damage.TheVariants as damage
+use Rattle.hy_formats.specs.Reading.{AreBytes, Refusal, ◌>>=◌, requiring, number_at, ranged_at}
 use Rattle.hy_codec.proofs.Values.{both}
 use Rattle.hy_codec.proofs.Numbers.{Takes, then_takes, bind_ok, ok_is, required, wide32, wide64, number_takes, number_again, ranged_takes, ranged_again, within_is, is_within_of, byte_takes, byte_again}
-use Rattle.hy_rules.specs.Checkpoint.{base_behind}
-use Rattle.hy_rules.specs.PointFormat.{PointHead, position_at, point_head_at}
+use Rattle.hy_formats.specs.Checkpoint.{base_behind}
+use Rattle.hy_formats.specs.PointFormat.{PointHead, position_at, point_head_at}
 
 -- the bytes of these fields
 abbrev pub head_text : Shape → PointHead → List ℕ

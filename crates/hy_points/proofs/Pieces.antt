@@ -5,8 +5,8 @@ use Rattle.std.specs.Int.{w32, w64, to_le_bytes}
 use Rattle.std.proofs.lemmas.List.{drop_at, take-append-le}
 use Rattle.std.proofs.lemmas.List.Concat.{flat_map-cons}
 use Rattle.std.proofs.lemmas.Grind.{flat_map-append}
-use Rattle.hy_rules.specs.Checkpoint.{Checkpoint}
-use Rattle.hy_rules.specs.PointFormat.{point_head_bytes, record_size, rest_of}
+use Rattle.hy_formats.specs.Checkpoint.{Checkpoint}
+use Rattle.hy_formats.specs.PointFormat.{point_head_bytes, record_size, rest_of}
 
 -- one item more
 pub one_more : {X : Type 0} (f : X → List ℕ) (xs : List X) (i : ℕ) (x : X) (start before after : List ℕ) → take (i + 1) xs ≡ take i xs ++ x ∷ [] → before ≡ start ++ flat_map f (take i xs) → after ≡ before ++ f x → after ≡ start ++ flat_map f (take (i + 1) xs)

@@ -6,18 +6,18 @@ use Rattle.std.proofs.lemmas.Bool.{eqb-true, ltb-false, le-ltb}
 use Rattle.std.proofs.lemmas.List.{take_at, drop_at, drop_more, drop-drop, length-replicate}
 use Rattle.hy_base.specs.declared.layout.Shape.{Shape}
 use Rattle.hy_base.specs.Shape.{IsGoodShape}
-use Rattle.hy_rules.specs.declared.damage.Damage.TheVariants as damage
-use Rattle.hy_rules.specs.Reading.{AreBytes, Refusal, ◌>>=◌}
-use Rattle.hy_rules.specs.LogFormat.{are_zeros, byte_at}
+use Rattle.hy_formats.specs.declared.damage.Damage.TheVariants as damage
+use Rattle.hy_formats.specs.Reading.{AreBytes, Refusal, ◌>>=◌}
+use Rattle.hy_formats.specs.LogFormat.{are_zeros, byte_at}
 use Rattle.hy_codec.proofs.Values.{both}
 use Rattle.hy_codec.proofs.Numbers.{AreBytes-drop, AreBytes-take, bind_ok, ok_is, wide64}
-use Rattle.hy_rules.specs.declared.damage.BadPoint.{BadPoint}
+use Rattle.hy_formats.specs.declared.damage.BadPoint.{BadPoint}
 use Rattle.hy_points.specs.declared.error.PointError.{PointError}
 use Rattle.hy_points.specs.declared.error.PointError.TheVariants as pointing
 use Rattle.hy_points.specs.declared.fields.Body.{Body}
 use Rattle.hy_points.specs.Reading.{FailsAt, DecodesAs, DecodesPoint, body_of}
-use Rattle.hy_rules.specs.Checkpoint.{Checkpoint, IsCheckpoint}
-use Rattle.hy_rules.specs.PointFormat.{IsStorable, body_bytes, record_size, point_bytes, whole_point_body, body_len_in, point_placed, filled_in, point_in}
+use Rattle.hy_formats.specs.Checkpoint.{Checkpoint, IsCheckpoint}
+use Rattle.hy_formats.specs.PointFormat.{IsStorable, body_bytes, record_size, point_bytes, whole_point_body, body_len_in, point_placed, filled_in, point_in}
 use Rattle.hy_points.specs.Laws.{BeginsWith}
 use Rattle.hy_points.proofs.Bodies.{whole_takes, whole_again}
 

@@ -8,14 +8,14 @@ use Rattle.hy_base.specs.declared.record.Row.{Row}
 use Rattle.hy_base.specs.Shape.{IsWithin}
 use Rattle.hy_base.specs.Value.{IsValue}
 use Rattle.hy_base.specs.Rows.{Each, IsOrdered}
-use Rattle.hy_rules.specs.declared.damage.Damage.TheVariants as damage
-use Rattle.hy_rules.specs.Reading.{AreBytes, ◌>>=◌, ranged_at, may_follow}
-use Rattle.hy_rules.specs.EntryFormat.{value_bytes, key_at, value_at}
+use Rattle.hy_formats.specs.declared.damage.Damage.TheVariants as damage
+use Rattle.hy_formats.specs.Reading.{AreBytes, ◌>>=◌, ranged_at, may_follow}
+use Rattle.hy_formats.specs.EntryFormat.{value_bytes, key_at, value_at}
 use Rattle.hy_codec.proofs.Values.{both}
 use Rattle.hy_codec.proofs.Numbers.{Takes, then_takes, bind_ok, ok_is, wide32, ranged_takes, ranged_again, within_is, is_within_of, byte_takes, byte_again}
 use Rattle.hy_codec.proofs.Items.{rises_from}
 use Rattle.hy_codec.proofs.Parts.{key_takes, key_again, value_takes, value_again}
-use Rattle.hy_rules.specs.PointFormat.{row_bytes, flag_bytes, saved_row_at, flag_at}
+use Rattle.hy_formats.specs.PointFormat.{row_bytes, flag_bytes, saved_row_at, flag_at}
 
 -- ---- rows
 

@@ -2,10 +2,10 @@
 use Rattle.std.specs.Prelude.{◌≡◌, ℕ, ◌≤◌, List, ◌++◌, length, Ok}
 use Rattle.hy_base.specs.declared.layout.Shape.{Shape}
 use Rattle.hy_base.specs.Shape.{IsGoodShape}
-use Rattle.hy_rules.specs.Reading.{AreBytes}
-use Rattle.hy_rules.specs.LogFormat.{byte_at}
-use Rattle.hy_rules.specs.Checkpoint.{Checkpoint, IsCheckpoint}
-use Rattle.hy_rules.specs.PointFormat.{IsStorable, point_bytes, point_in}
+use Rattle.hy_formats.specs.Reading.{AreBytes}
+use Rattle.hy_formats.specs.LogFormat.{byte_at}
+use Rattle.hy_formats.specs.Checkpoint.{Checkpoint, IsCheckpoint}
+use Rattle.hy_formats.specs.PointFormat.{IsStorable, point_bytes, point_in}
 
 -- the bytes begin with the spelling of a point of a log of this shape
 pub record BeginsWith (s : Shape) (c : Checkpoint) (bytes : List ℕ) : Type 0 where

@@ -1,13 +1,13 @@
 -- What a call that reads a point gives, against what the format says.
 use Rattle.std.specs.Prelude.{◌≡◌, Result, Ok, Err, ⊤}
-use Rattle.hy_rules.specs.declared.damage.BadPoint.{BadPoint}
+use Rattle.hy_formats.specs.declared.damage.BadPoint.{BadPoint}
 use Rattle.hy_points.specs.declared.error.PointError.{PointError}
 use Rattle.hy_points.specs.declared.error.PointError.TheVariants as pointing
 use Rattle.hy_points.specs.declared.fields.PointHead.{PointHead as HeadRead}
 use Rattle.hy_points.specs.declared.fields.Body.{Body}
 use Rattle.hy_base.specs.declared.layout.Shape.{Shape}
-use Rattle.hy_rules.specs.Checkpoint.{Checkpoint}
-use Rattle.hy_rules.specs.PointFormat.{PointHead, checkpoint_by}
+use Rattle.hy_formats.specs.Checkpoint.{Checkpoint}
+use Rattle.hy_formats.specs.PointFormat.{PointHead, checkpoint_by}
 
 -- the head that the code reads, as the format has it
 abbrev pub point_head_of : HeadRead → PointHead

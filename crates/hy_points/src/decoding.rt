@@ -2,10 +2,10 @@
 ghost use Rattle.std.specs.Prelude.{◌≡◌, ◌+◌, ◌≤◌, ◌-◌, IfOk, Result, Ok, length, take, drop};
 ghost use Rattle.hy_base.specs.Rows.{IsOrdered};
 ghost use Rattle.hy_base.specs.Shape.{IsGoodShape};
-ghost use Rattle.hy_rules.specs.LogFormat.{are_zeros, byte_at};
-ghost use Rattle.hy_rules.specs.Checkpoint.{Checkpoint, IsCheckpoint};
-ghost use Rattle.hy_rules.specs.PointFormat.{record_size, body_len_in, whole_point_body, point_placed, filled_in, point_in};
-ghost use Rattle.hy_rules.specs.declared.damage.BadPoint.{BadPoint};
+ghost use Rattle.hy_formats.specs.LogFormat.{are_zeros, byte_at};
+ghost use Rattle.hy_formats.specs.Checkpoint.{Checkpoint, IsCheckpoint};
+ghost use Rattle.hy_formats.specs.PointFormat.{record_size, body_len_in, whole_point_body, point_placed, filled_in, point_in};
+ghost use Rattle.hy_formats.specs.declared.damage.BadPoint.{BadPoint};
 ghost use Rattle.hy_points.specs.Reading.{DecodesPoint, DecodesAs, body_of};
 ghost use Rattle.hy_points.specs.Laws.{BeginsWith};
 
@@ -14,8 +14,8 @@ use crate::fields::{Body, whole_point_body};
 use crate::point::Point;
 use byteorder::{ByteOrder, LittleEndian};
 use hy_base::{Items, Row, Shape};
-use hy_codec::ReadError;
-use hy_rules::{BadPoint, Damage};
+use hy_codec::FieldError;
+use hy_formats::{BadPoint, Damage};
 use hy_tree::Tree;
 use std::alloc::{AllocError, Global};
 
@@ -48,8 +48,8 @@ fn body_in(alloc: Global, shape: Shape, body: &[u8]) -> Result<Body, PointError>
 {
     match whole_point_body(alloc, shape, body) {
         Ok(body) => Ok(body),
-        Err(ReadError::Memory) => Err(PointError::Memory),
-        Err(ReadError::Refused(refused)) => Err(PointError::BadPoint(BadPoint {
+        Err(FieldError::Memory) => Err(PointError::Memory),
+        Err(FieldError::Refused(refused)) => Err(PointError::BadPoint(BadPoint {
             place: 9 + body.len().saturating_sub(refused.left),
             why: refused.why,
         })),
@@ -78,7 +78,7 @@ fn filled_in(len: usize, bytes: &[u8]) -> Result<(), BadPoint>
 }
 
 // The body in the record with which the bytes begin.
-#[tactic(auto, unfolding(hy_rules::specs::PointFormat::point_in))]
+#[tactic(auto, unfolding(hy_formats::specs::PointFormat::point_in))]
 fn record_in(alloc: Global, shape: Shape, bytes: &[u8]) -> Result<Body, PointError>
     requires good { IsGoodShape shape }
     requires long { 9 ≤ length bytes.now }

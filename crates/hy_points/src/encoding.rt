@@ -1,9 +1,9 @@
 //! From a point to bytes.
 ghost use Rattle.std.specs.Prelude.{◌≡◌, ◌++◌, ◌<◌, ◌≤◌, ◌^◌, ◌+◌, ◌-◌, ◌∷◌, [], length, take, drop, flat_map, replicate, OnOk, IfOk};
 ghost use Rattle.std.specs.Int.{w64, to_le_bytes};
-ghost use Rattle.hy_rules.specs.Checkpoint.{IsCheckpoint};
+ghost use Rattle.hy_formats.specs.Checkpoint.{IsCheckpoint};
 ghost use Rattle.hy_tree.specs.TreeRows.{AreRows};
-ghost use Rattle.hy_rules.specs.PointFormat.{row_bytes, flag_bytes, body_bytes, point_head_bytes, point_bytes, record_size, IsStorable};
+ghost use Rattle.hy_formats.specs.PointFormat.{row_bytes, flag_bytes, body_bytes, point_head_bytes, point_bytes, record_size, IsStorable};
 
 use crate::point::Point;
 use byteorder::{ByteOrder, LittleEndian};
@@ -70,7 +70,7 @@ fn push_head(out: &mut Vec<u8>, point: &Point) -> Result<(), AllocError>
     Ok(())
 }
 
-#[tactic(auto, unfolding(hy_rules::specs::PointFormat::body_bytes))]
+#[tactic(auto, unfolding(hy_formats::specs::PointFormat::body_bytes))]
 fn push_body(out: &mut Vec<u8>, point: &Point) -> Result<(), AllocError>
     ensures bytes { OnOk result (out.new.items ≡ out.old.items ++ body_bytes point.now) }
     ensures count { OnOk result (length point.now.rows < 2 ^ 64) }

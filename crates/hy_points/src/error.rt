@@ -2,7 +2,7 @@
 ghost use Rattle.std.specs.Prelude.{◌≡◌};
 ghost use Rattle.hy_points.specs.declared.error.PointError.TheVariants as pointing;
 
-use hy_rules::BadPoint;
+use hy_formats::BadPoint;
 use std::alloc::AllocError;
 use thiserror::Error;
 

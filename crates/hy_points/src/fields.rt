@@ -1,14 +1,14 @@
 //! A point's body, field by field.
 ghost use Rattle.std.specs.Prelude.{◌≡◌, ◌-◌, ◌≤◌, Option, Bool, IfOk, None};
 ghost use Rattle.hy_base.specs.Shape.{IsGoodShape};
-ghost use Rattle.hy_rules.specs.Reading.{items_at};
+ghost use Rattle.hy_formats.specs.Reading.{items_at};
 ghost use Rattle.hy_codec.specs.Reading.{Gives};
-ghost use Rattle.hy_rules.specs.PointFormat.{position_at, point_head_at, saved_row_at, flag_at, point_body_at, whole_point_body};
+ghost use Rattle.hy_formats.specs.PointFormat.{position_at, point_head_at, saved_row_at, flag_at, point_body_at, whole_point_body};
 ghost use Rattle.hy_points.specs.Reading.{point_head_of, body_of};
 
 use hy_base::{Key, Pos, Row, Shape};
-use hy_codec::{ReadError, key_at, requiring, u8_in, u32_at, u32_in, u64_at, value_at};
-use hy_rules::Damage;
+use hy_codec::{FieldError, key_at, requiring, u8_in, u32_at, u32_in, u64_at, value_at};
+use hy_formats::Damage;
 use std::alloc::Global;
 
 /// The fields before the rows.
@@ -28,8 +28,8 @@ pub struct Body {
 }
 
 // The end of a group of the log.
-#[tactic(auto, unfolding(hy_rules::specs::PointFormat::position_at))]
-fn position_at(shape: Shape, bytes: &[u8]) -> Result<(Pos, &[u8]), ReadError>
+#[tactic(auto, unfolding(hy_formats::specs::PointFormat::position_at))]
+fn position_at(shape: Shape, bytes: &[u8]) -> Result<(Pos, &[u8]), FieldError>
     requires { IsGoodShape shape }
     ensures read { Gives (λ x. (x.0, x.1.now)) result (position_at shape bytes.now) }
     ensures within { IfOk result (λ x. x.0 ≤ shape.cap) }
@@ -40,8 +40,8 @@ fn position_at(shape: Shape, bytes: &[u8]) -> Result<(Pos, &[u8]), ReadError>
     Ok((position, rest))
 }
 
-#[tactic(auto, unfolding(hy_rules::specs::PointFormat::point_head_at))]
-fn point_head_at(shape: Shape, bytes: &[u8]) -> Result<(PointHead, &[u8]), ReadError>
+#[tactic(auto, unfolding(hy_formats::specs::PointFormat::point_head_at))]
+fn point_head_at(shape: Shape, bytes: &[u8]) -> Result<(PointHead, &[u8]), FieldError>
     requires { IsGoodShape shape }
     ensures read { Gives (λ x. (point_head_of x.0, x.1.now)) result (point_head_at shape bytes.now) }
 {
@@ -60,13 +60,13 @@ fn point_head_at(shape: Shape, bytes: &[u8]) -> Result<(PointHead, &[u8]), ReadE
 }
 
 // A row of a key above the last one, if there is one, and of a writer up to the base.
-#[tactic(auto, unfolding(hy_rules::specs::PointFormat::saved_row_at))]
+#[tactic(auto, unfolding(hy_formats::specs::PointFormat::saved_row_at))]
 fn saved_row_at(
     alloc: Global,
     base: Pos,
     last: Option<Key>,
     bytes: &[u8],
-) -> Result<(Row, &[u8]), ReadError>
+) -> Result<(Row, &[u8]), FieldError>
     ensures { Gives (λ x. (x.0, x.1.now)) result (saved_row_at base last bytes.now) }
 {
     let (key, rest) = key_at(last, bytes)?;
@@ -81,7 +81,7 @@ fn rows_at(
     count: u64,
     base: Pos,
     bytes: &[u8],
-) -> Result<(Vec<Row>, &[u8]), ReadError>
+) -> Result<(Vec<Row>, &[u8]), FieldError>
     ensures { Gives (λ x. (x.0.items, x.1.now)) result (items_at (saved_row_at base) (λ r. r.key) count None bytes.now) }
 {
     let mut rows = Vec::new(alloc);
@@ -96,8 +96,8 @@ fn rows_at(
     Ok((rows, rest))
 }
 
-#[tactic(auto, unfolding(hy_rules::specs::PointFormat::flag_at))]
-fn flag_at(bytes: &[u8]) -> Result<(bool, &[u8]), ReadError>
+#[tactic(auto, unfolding(hy_formats::specs::PointFormat::flag_at))]
+fn flag_at(bytes: &[u8]) -> Result<(bool, &[u8]), FieldError>
     ensures { (last : Option Bool) → Gives (λ x. (x.0, x.1.now)) result (flag_at last bytes.now) }
 {
     let (flag, rest) = u8_in(bytes, 0, 1, Damage::Flag)?;
@@ -105,7 +105,7 @@ fn flag_at(bytes: &[u8]) -> Result<(bool, &[u8]), ReadError>
 }
 
 // So many flags.
-fn flags_at(alloc: Global, count: u32, bytes: &[u8]) -> Result<(Vec<bool>, &[u8]), ReadError>
+fn flags_at(alloc: Global, count: u32, bytes: &[u8]) -> Result<(Vec<bool>, &[u8]), FieldError>
     ensures { Gives (λ x. (x.0.items, x.1.now)) result (items_at flag_at (λ f. f) count None bytes.now) }
 {
     let mut flags = Vec::new(alloc);
@@ -119,8 +119,8 @@ fn flags_at(alloc: Global, count: u32, bytes: &[u8]) -> Result<(Vec<bool>, &[u8]
 }
 
 // A point's body, and the bytes after it.
-#[tactic(auto, unfolding(hy_rules::specs::PointFormat::point_body_at))]
-fn point_body_at(alloc: Global, shape: Shape, bytes: &[u8]) -> Result<(Body, &[u8]), ReadError>
+#[tactic(auto, unfolding(hy_formats::specs::PointFormat::point_body_at))]
+fn point_body_at(alloc: Global, shape: Shape, bytes: &[u8]) -> Result<(Body, &[u8]), FieldError>
     requires { IsGoodShape shape }
     ensures { Gives (λ x. (body_of shape x.0, x.1.now)) result (point_body_at shape bytes.now) }
 {
@@ -131,8 +131,8 @@ fn point_body_at(alloc: Global, shape: Shape, bytes: &[u8]) -> Result<(Body, &[u
 }
 
 /// The body that all of the bytes are.
-#[tactic(auto, unfolding(hy_rules::specs::PointFormat::whole_point_body))]
-pub fn whole_point_body(alloc: Global, shape: Shape, bytes: &[u8]) -> Result<Body, ReadError>
+#[tactic(auto, unfolding(hy_formats::specs::PointFormat::whole_point_body))]
+pub fn whole_point_body(alloc: Global, shape: Shape, bytes: &[u8]) -> Result<Body, FieldError>
     requires { IsGoodShape shape }
     ensures { Gives (body_of shape) result (whole_point_body shape bytes.now) }
 {

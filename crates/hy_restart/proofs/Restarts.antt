@@ -9,8 +9,9 @@ use Rattle.hy_base.specs.declared.record.Row.{Row}
 use Rattle.hy_base.specs.Log.{HaveLawfulSnaps, IsLawful}
 use Rattle.hy_base.specs.Shape.{IsGoodShape, base_groups, whole_groups}
 use Rattle.hy_rules.specs.Validation.{verdicts, rows, rows_after}
-use Rattle.hy_rules.specs.Rolling.{Roll, Rolled, rolled_upto, new_roll, resumed, roll_group, roll_groups, roll_on, commits_past, Stands}
-use Rattle.hy_rules.specs.Checkpoint.{Checkpoint, IsCheckpoint, base_behind}
+use Rattle.hy_rolling.specs.Rolling.{Roll, Rolled, rolled_upto, new_roll, resumed, roll_group, roll_groups, roll_on, Stands}
+use Rattle.hy_rules.specs.History.{commits_past}
+use Rattle.hy_formats.specs.Checkpoint.{Checkpoint, IsCheckpoint, base_behind}
 use Rattle.hy_rules.specs.SavedPoints.{PointStands}
 use Rattle.hy_pipe.specs.RollerLaws.{NewRollStands, ResumedStands, RollStands}
 use Rattle.hy_restart.specs.Resuming.{start_of, starting, whole_front, restarted_roll}

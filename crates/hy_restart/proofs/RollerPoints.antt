@@ -7,8 +7,9 @@ use Rattle.hy_base.specs.declared.record.Row.{Row}
 use Rattle.hy_base.specs.Shape.{IsGoodShape, IsWithin, base_groups, premeld_base}
 use Rattle.hy_base.specs.Rows.{Each, IsOrdered}
 use Rattle.hy_rules.specs.Validation.{verdicts_after, rows_after}
-use Rattle.hy_rules.specs.Rolling.{AreWritten, Roll, rolled_upto, next_base, commits_past, Stands}
-use Rattle.hy_rules.specs.Checkpoint.{IsCheckpoint, base_behind, checkpoint_of}
+use Rattle.hy_rolling.specs.Rolling.{AreWritten, Roll, rolled_upto, next_base, Stands}
+use Rattle.hy_rules.specs.History.{commits_past}
+use Rattle.hy_formats.specs.Checkpoint.{IsCheckpoint, base_behind, checkpoint_of}
 use Rattle.hy_rules.specs.SavedPoints.{PointStands, IsPointOf}
 use Rattle.hy_pipe.specs.RollerLaws.{IsRoller}
 use Rattle.hy_points.proofs.Bases.{base_formula}

@@ -5,14 +5,14 @@ use Rattle.std.proofs.lemmas.Bool.{cases_eq, eqb-true}
 use Rattle.std.proofs.lemmas.List.{take_at, drop_more}
 use Rattle.hy_base.specs.declared.layout.Shape.{Shape}
 use Rattle.hy_base.specs.declared.record.EntryKind.{EntryKind}
-use Rattle.hy_rules.specs.LogFormat.{byte_at, has_zero}
+use Rattle.hy_formats.specs.LogFormat.{byte_at, has_zero}
 use Rattle.hy_disk.specs.Content.{Content, Torn, settled}
-use Rattle.hy_rules.specs.Checkpoint.{Checkpoint, IsCheckpoint}
-use Rattle.hy_rules.specs.PointFormat.{IsStorable, body_bytes, point_rest, point_bytes, point_in, has_point, held_point}
+use Rattle.hy_formats.specs.Checkpoint.{Checkpoint, IsCheckpoint}
+use Rattle.hy_formats.specs.PointFormat.{IsStorable, body_bytes, point_rest, point_bytes, point_in, has_point, held_point}
 use Rattle.hy_points.proofs.Records.{point_again, point_size, record_is_page}
-use Rattle.hy_log.specs.Gates.{IsGuarded, opened}
+use Rattle.hy_log.specs.Gates.{IsGuarded, gate_opened}
 use Rattle.hy_rules.specs.SavedPoints.{IsPointOf, StandsBehind, IsFit, IsLeftBySave}
-use Rattle.hy_restart.specs.Saving.{HoldsPoint, IsBehindGate, IsSaving, IsSaved}
+use Rattle.hy_restart.specs.Saving.{HoldsPoint, IsBehindGate, IsStoring, IsStored}
 
 both : (a b : Bool) → (a && b) ≡ true → (a ≡ true) × (b ≡ true)
 both true b e = (refl, e)
@@ -93,7 +93,7 @@ module _ (s : Shape) (log : List EntryKind) (c : Checkpoint) where
         record { fit = inr (inr (c, of, stands)); holds = either s image (λ has. inl (held_behind s c image of.shape_is stands has.long has.gate)) }
   ]
 
-  pub saving_left : (seen image : List ℕ) → IsPointOf s log c → IsCheckpoint c → IsStorable c → IsFit s log seen → IsSaving (point_rest c) seen image → IsLeftBySave s log c seen image
+  pub saving_left : (seen image : List ℕ) → IsPointOf s log c → IsCheckpoint c → IsStorable c → IsFit s log seen → IsStoring (point_rest c) seen image → IsLeftBySave s log c seen image
   saving_left seen image of valid storable fit (inl (inl same)) = subst (IsLeftBySave s log c seen) (sym same) (left_same seen fit)
   saving_left seen image of valid storable fit (inl (inr (open_gate, torn))) = left_torn seen image fit open_gate torn
   saving_left seen image of valid storable fit (inr put) = left_behind seen image of valid storable put
@@ -110,11 +110,11 @@ behind_gate c bytes is =
 pub guarded_is_behind : (rest seen image : List ℕ) → IsGuarded 0 rest seen image → IsBehindGate rest image
 guarded_is_behind rest seen image guarded = record { byte = guarded.byte; tail = guarded.rest; is = guarded.is; whole = λ other. (drop (0 + 1 + length rest) seen, guarded.whole other) }
 
-pub stored_is_saved : (rest seen : List ℕ) (content : Content) → content ≡ settled (opened 0 rest seen) → IsSaved rest content
+pub stored_is_saved : (rest seen : List ℕ) (content : Content) → content ≡ settled (gate_opened 0 rest seen) → IsStored rest content
 stored_is_saved rest seen content is = record { more = drop (0 + 1 + length rest) seen; is = is }
 
 -- after it the device holds the point
-pub saved_holds : (c : Checkpoint) (rest : List ℕ) (content : Content) → IsCheckpoint c → IsStorable c → rest ≡ point_rest c → IsSaved rest content → HoldsPoint c.shape c content
+pub saved_holds : (c : Checkpoint) (rest : List ℕ) (content : Content) → IsCheckpoint c → IsStorable c → rest ≡ point_rest c → IsStored rest content → HoldsPoint c.shape c content
 saved_holds c rest content valid storable same saved =
     let seen : List ℕ = 71 ∷ (rest ++ saved.more) in
     let size : 256 ≤ length seen = omega (arith, length-append rest saved.more, ap length same, point_size c, record_is_page (length (body_bytes c))) in

@@ -3,8 +3,8 @@ use Rattle.std.proofs.Common.{◌≡◌, inl, inr, ℕ, Bool, false, cond, List,
 use Rattle.std.specs.Prelude.{nat_lt}
 use Rattle.hy_base.specs.declared.layout.Shape.{Shape}
 use Rattle.hy_base.specs.declared.record.EntryKind.{EntryKind}
-use Rattle.hy_rules.specs.Checkpoint.{Checkpoint}
-use Rattle.hy_rules.specs.PointFormat.{held_point}
+use Rattle.hy_formats.specs.Checkpoint.{Checkpoint}
+use Rattle.hy_formats.specs.PointFormat.{held_point}
 use Rattle.hy_restart.specs.declared.error.RestartError.TheVariants as restarting
 use Rattle.hy_rules.specs.SavedPoints.{IsPointOf, IsLeftBySave}
 use Rattle.hy_restart.specs.Restart.{as_point, not_ahead}

@@ -3,9 +3,9 @@ use Rattle.std.specs.Prelude.{◌≡◌, ℕ, List, ◌++◌, length, Option, Ok
 use Rattle.hy_base.specs.declared.layout.Shape.{Shape}
 use Rattle.hy_base.specs.declared.record.EntryKind.{EntryKind}
 use Rattle.hy_base.specs.Shape.{IsGoodShape}
-use Rattle.hy_rules.specs.Rolling.{Roll, Stands}
-use Rattle.hy_rules.specs.Checkpoint.{Checkpoint}
-use Rattle.hy_rules.specs.PointFormat.{held_point}
+use Rattle.hy_rolling.specs.Rolling.{Roll, Stands}
+use Rattle.hy_formats.specs.Checkpoint.{Checkpoint}
+use Rattle.hy_formats.specs.PointFormat.{held_point}
 use Rattle.hy_rules.specs.SavedPoints.{PointStands, IsPointOf, IsFit, IsLeftBySave}
 use Rattle.hy_restart.specs.Restart.{as_point, not_ahead, StandsIfAny}
 use Rattle.hy_restart.specs.Saving.{point_of}

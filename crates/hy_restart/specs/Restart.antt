@@ -5,17 +5,17 @@ use Rattle.hy_base.specs.declared.layout.Shape.{Shape}
 use Rattle.hy_base.specs.declared.record.EntryKind.{EntryKind}
 use Rattle.hy_base.specs.Log.{IsLawful}
 use Rattle.hy_base.specs.Shape.{whole_groups}
-use Rattle.hy_rules.specs.declared.damage.BadEntry.{BadEntry}
-use Rattle.hy_rules.specs.EntryFormat.{entries_past, spelling}
-use Rattle.hy_rules.specs.Reading.{◌>>=◌}
-use Rattle.hy_rules.specs.Rolling.{Roll, rolled_upto, Stands}
+use Rattle.hy_formats.specs.declared.damage.BadEntry.{BadEntry}
+use Rattle.hy_formats.specs.EntryFormat.{entries_past, spelling}
+use Rattle.hy_formats.specs.Reading.{◌>>=◌}
+use Rattle.hy_rolling.specs.Rolling.{Roll, rolled_upto, Stands}
 use Rattle.hy_disk.specs.Content.{Content, Image}
 use Rattle.hy_disk.specs.Moments.{LeavesOnly}
-use Rattle.hy_log.specs.View.{View}
-use Rattle.hy_check.specs.Listing.{IsSound}
-use Rattle.hy_rules.specs.declared.damage.BadPoint.{BadPoint}
-use Rattle.hy_rules.specs.Checkpoint.{Checkpoint}
-use Rattle.hy_rules.specs.PointFormat.{held_point}
+use Rattle.hy_log.specs.View.{LogView}
+use Rattle.hy_check.specs.Listing.{IsSoundEntry}
+use Rattle.hy_formats.specs.declared.damage.BadPoint.{BadPoint}
+use Rattle.hy_formats.specs.Checkpoint.{Checkpoint}
+use Rattle.hy_formats.specs.PointFormat.{held_point}
 use Rattle.hy_restart.specs.declared.error.RestartError.{RestartError}
 use Rattle.hy_restart.specs.declared.error.RestartError.TheVariants as restarting
 use Rattle.hy_rules.specs.SavedPoints.{IsPointOf}
@@ -58,18 +58,18 @@ entries_for (Ok (entries, point)) = Ok entries
 entries_for (Err e) = Err e
 
 -- the refusal is the one that the bytes tell; want of memory and a failing device are free of them
-abbrev pub Refuses : {X : Type 0} → RestartError → Result X RestartError → Type 0
-Refuses restarting.Memory read = ⊤
-Refuses restarting.LogDevice read = ⊤
-Refuses restarting.PointsDevice read = ⊤
-Refuses (restarting.BadEntry pos bad) read = read ≡ Err (restarting.BadEntry pos bad)
-Refuses (restarting.BadPoint bad) read = read ≡ Err (restarting.BadPoint bad)
-Refuses (restarting.Ahead point log) read = read ≡ Err (restarting.Ahead point log)
+abbrev pub RefusesRestart : {X : Type 0} → RestartError → Result X RestartError → Type 0
+RefusesRestart restarting.Memory read = ⊤
+RefusesRestart restarting.LogDevice read = ⊤
+RefusesRestart restarting.PointsDevice read = ⊤
+RefusesRestart (restarting.BadEntry pos bad) read = read ≡ Err (restarting.BadEntry pos bad)
+RefusesRestart (restarting.BadPoint bad) read = read ≡ Err (restarting.BadPoint bad)
+RefusesRestart (restarting.Ahead point log) read = read ≡ Err (restarting.Ahead point log)
 
 -- the value that is read, or the refusal
 abbrev pub Restarts : {X Y : Type 0} → (X → Y) → Result X RestartError → Result Y RestartError → Type 0
 Restarts view (Ok x) read = read ≡ Ok (view x)
-Restarts view (Err e) read = Refuses e read
+Restarts view (Err e) read = RefusesRestart e read
 
 -- ---- what is made of it
 
@@ -95,7 +95,7 @@ pub record IsStart (tells from_point : Bool) (s : Shape) (bytes : List ℕ) (ent
 pub record AreFoundIn (tells : Bool) (s : Shape) (bodies : List (List ℕ)) (entries : List EntryKind) : Type 0 where
   pub read : IsTrue tells → entries_past s 0 bodies ≡ Ok entries
   pub spelled : IsTrue tells → bodies ≡ map spelling entries
-  pub sound : AllByRecursion IsSound entries
+  pub sound : AllByRecursion IsSoundEntry entries
   pub lawful : IsLawful s entries
   pub count : length entries ≡ length bodies
 
@@ -106,7 +106,7 @@ IsOfBytes restarting.PointsDevice = ⊥
 IsOfBytes _ = ⊤
 
 -- a log that is as it was, but for its device
-pub record IsSameLog {D : Type 0} (old new : View D) : Type 0 where
+pub record IsSameLog {D : Type 0} (old new : LogView D) : Type 0 where
   pub shape : new.shape ≡ old.shape
   pub stopped : new.stopped ≡ old.stopped
   pub batch : new.batch ≡ old.batch

@@ -6,8 +6,8 @@ use Rattle.hy_base.specs.declared.record.Row.{Row}
 use Rattle.hy_base.specs.Shape.{kept_groups, whole_groups}
 use Rattle.hy_base.specs.Rows.{applied}
 use Rattle.hy_rules.specs.History.{flagged_history}
-use Rattle.hy_rules.specs.Rolling.{Roll, new_roll, resumed, roll_on}
-use Rattle.hy_rules.specs.Checkpoint.{Checkpoint, base_behind}
+use Rattle.hy_rolling.specs.Rolling.{Roll, new_roll, resumed, roll_on}
+use Rattle.hy_formats.specs.Checkpoint.{Checkpoint, base_behind}
 
 -- where a restart begins
 abbrev pub start_of : Option Checkpoint → ℕ

@@ -2,10 +2,10 @@
 use Rattle.std.specs.Prelude.{◌≡◌, ◌≢◌, ◌⊎◌, ℕ, List, ◌∷◌, ◌++◌, Some, Ok}
 use Rattle.hy_base.specs.declared.layout.Shape.{Shape}
 use Rattle.hy_disk.specs.Content.{Content, settled}
-use Rattle.hy_rules.specs.Rolling.{Roll, rolled_upto, next_base}
-use Rattle.hy_rules.specs.Checkpoint.{Checkpoint}
-use Rattle.hy_rules.specs.PointFormat.{held_point}
-use Rattle.hy_rules.specs.LogFormat.{has_zero}
+use Rattle.hy_rolling.specs.Rolling.{Roll, rolled_upto, next_base}
+use Rattle.hy_formats.specs.Checkpoint.{Checkpoint}
+use Rattle.hy_formats.specs.PointFormat.{held_point}
+use Rattle.hy_formats.specs.LogFormat.{has_zero}
 use Rattle.hy_log.specs.Kept.{MayBeShut}
 
 -- the point of a roller: its rows at the premeld base of the next group, and which entries committed past that
@@ -27,10 +27,10 @@ pub record IsBehindGate (rest image : List ℕ) : Type 0 where
   pub whole : byte ≢ 0 → (more : List ℕ) × (tail ≡ rest ++ more)
 
 -- as it was but for the byte of a gate that wasn't closed, or with the gate closed, or with these bytes whole behind it
-abbrev pub IsSaving : List ℕ → List ℕ → List ℕ → Type 0
-IsSaving rest seen image = MayBeShut 0 (has_zero seen) seen image ⊎ IsBehindGate rest image
+abbrev pub IsStoring : List ℕ → List ℕ → List ℕ → Type 0
+IsStoring rest seen image = MayBeShut 0 (has_zero seen) seen image ⊎ IsBehindGate rest image
 
 -- these bytes stand behind an open gate, and nothing is pending
-pub record IsSaved (rest : List ℕ) (content : Content) : Type 0 where
+pub record IsStored (rest : List ℕ) (content : Content) : Type 0 where
   pub more : List ℕ
   pub is : content ≡ settled (71 ∷ (rest ++ more))

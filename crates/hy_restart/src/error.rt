@@ -4,7 +4,7 @@ ghost use Rattle.hy_restart.specs.declared.error.SaveError.TheVariants.{Memory, 
 ghost use Rattle.hy_restart.specs.declared.error.RestartError.TheVariants as restarting;
 
 use hy_base::{Failed, Pos};
-use hy_rules::{BadEntry, BadPoint};
+use hy_formats::{BadEntry, BadPoint};
 use std::alloc::AllocError;
 use thiserror::Error;
 

@@ -3,8 +3,8 @@ ghost use Rattle.std.specs.Prelude.{◌≡◌, ◌≤◌, Option, length, IsTrue
 ghost use Rattle.hy_base.specs.declared.layout.Shape.{Shape};
 ghost use Rattle.hy_base.specs.Faults.{Rose};
 ghost use Rattle.hy_base.specs.Shape.{IsGoodShape};
-ghost use Rattle.hy_rules.specs.Checkpoint.{Checkpoint, IsCheckpoint};
-ghost use Rattle.hy_rules.specs.PointFormat.{held_point};
+ghost use Rattle.hy_formats.specs.Checkpoint.{Checkpoint, IsCheckpoint};
+ghost use Rattle.hy_formats.specs.PointFormat.{held_point};
 ghost use Rattle.hy_restart.specs.Restart.{Restarts, as_point, OnlyReads};
 ghost use Rattle.hy_restart.specs.declared.error.RestartError.TheVariants as restarting;
 

@@ -2,9 +2,10 @@
 ghost use Rattle.std.specs.Prelude.{◌≡◌, ◌+◌, ◌-◌, ◌%◌, ◌≤◌, ◌<◌, true, false, Option, length, drop, IsTrue, IfOk, IfErr, IfSome, Ok, Err, None, Some};
 ghost use Rattle.hy_base.specs.Faults.{Rose};
 ghost use Rattle.hy_base.specs.Log.{IsLawful};
-ghost use Rattle.hy_base.specs.Shape.{IsGoodShape, IsWithin, whole_groups};
-ghost use Rattle.hy_rules.specs.Checkpoint.{Checkpoint, IsCheckpoint};
-ghost use Rattle.hy_rules.specs.EntryFormat.{entries_past};
+ghost use Rattle.hy_base.specs.Shape.{IsGoodShape, whole_groups};
+ghost use Rattle.hy_base.specs.Limits.{IsThreadCount};
+ghost use Rattle.hy_formats.specs.Checkpoint.{Checkpoint, IsCheckpoint};
+ghost use Rattle.hy_formats.specs.EntryFormat.{entries_past};
 ghost use Rattle.hy_restart.specs.Restart.{AreFoundIn, IsOfBytes, IsRestarted, IsSameLog, IsStart, OnlyReads, Restarts, as_entries, as_point, asked_point, entries_for, not_ahead, restart_in};
 ghost use Rattle.hy_restart.specs.Resuming.{start_of, starting, whole_front, restarted_roll};
 ghost use Rattle.hy_restart.specs.declared.error.RestartError.TheVariants as restarting;
@@ -110,7 +111,7 @@ fn rolled<R: Threads + Sync, G: Gate + Sync>(
     requires lawful { IsLawful shape entries.now }
     requires valid { IfSome point.now (λ c. (c.shape ≡ shape) × IsCheckpoint c) }
     requires within { IfSome point.now (λ c. c.position ≤ length entries.now) }
-    requires threads { IsWithin 1 16 threads }
+    requires threads { IsThreadCount threads }
     ensures { IfOk result (λ r. r ≡ restarted_roll shape entries.now point.now) }
 {
     let start = at_start(alloc, shape, point, entries)?;
@@ -188,7 +189,7 @@ fn go_on<R: Threads + Sync, G: Gate + Sync>(
     requires lawful { IsLawful shape entries.items }
     requires valid { IfSome point (λ c. (c.shape ≡ shape) × IsCheckpoint c) }
     requires within { IfSome point (λ c. c.position ≤ length entries.items) }
-    requires threads { IsWithin 1 16 threads }
+    requires threads { IsThreadCount threads }
     ensures entries { IfOk result (λ r. r.entries.items ≡ entries.items) }
     ensures roller { IfOk result (λ r. IsRestarted shape entries.items point r.roller) }
     ensures memory { IfErr result (λ e. e ≡ restarting.Memory) }
@@ -219,7 +220,7 @@ pub fn restart<R: Threads + Sync, D: Disk, G: Gate + Sync>(
     threads: usize,
     gate: &G,
 ) -> Result<Restarted, RestartError>
-    requires threads { IsWithin 1 16 threads }
+    requires threads { IsThreadCount threads }
     ensures read { IsTrue D.tells → Restarts (λ r. r.entries.items) result (entries_for (restart_in log.old.shape log.old.bodies from_point (D.content points.old).seen)) }
     ensures found { IfOk result (λ r. AreFoundIn D.tells log.old.shape log.old.bodies r.entries.items) }
     ensures roller { IfOk result (λ r. (point : Option Checkpoint) × IsStart D.tells from_point log.old.shape (D.content points.old).seen r.entries.items point × IsRestarted log.old.shape r.entries.items point r.roller) }

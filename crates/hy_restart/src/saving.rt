@@ -4,11 +4,11 @@ ghost use Rattle.hy_base.specs.declared.record.EntryKind.{EntryKind};
 ghost use Rattle.hy_base.specs.Faults.{HasCause, Rose};
 ghost use Rattle.hy_disk.specs.Content.{Image, settled};
 ghost use Rattle.hy_disk.specs.Moments.{LeavesOnly};
-ghost use Rattle.hy_rules.specs.LogFormat.{has_zero};
+ghost use Rattle.hy_formats.specs.LogFormat.{has_zero};
 ghost use Rattle.hy_log.specs.Gates.{IsClosedAt};
 ghost use Rattle.hy_log.specs.Kept.{MayBeShut};
 ghost use Rattle.hy_rules.specs.SavedPoints.{IsPointOf, IsFit, IsLeftBySave};
-ghost use Rattle.hy_restart.specs.Saving.{IsSaved, IsSaving, HoldsPoint};
+ghost use Rattle.hy_restart.specs.Saving.{IsStored, IsStoring, HoldsPoint};
 ghost use Rattle.hy_restart.specs.declared.error.SaveError.TheVariants as saving;
 
 use crate::error::SaveError;
@@ -46,9 +46,9 @@ fn close_gate<D: Disk>(points: &mut D) -> Result<(), Failed>
 // Puts these bytes behind the gate at byte 0: it closes the gate, and opens it once they are on the disk.
 fn save_record<D: Disk>(points: &mut D, rest: &[u8]) -> Result<(), Failed>
     requires { length rest.now < 2 ^ 63 }
-    ensures saved { IsTrue D.tells → OnOk result (IsSaved rest.now (D.content points.new)) }
+    ensures saved { IsTrue D.tells → OnOk result (IsStored rest.now (D.content points.new)) }
     ensures any_moment { IsTrue D.tells → D.content points.old ≡ settled (D.content points.old).seen
-        → LeavesOnly D.moment D.left_since points.old points.new (IsSaving rest.now (D.content points.old).seen) }
+        → LeavesOnly D.moment D.left_since points.old points.new (IsStoring rest.now (D.content points.old).seen) }
     ensures cause { HasCause (D.faults_of points.old) (D.faults_of points.new) result }
 {
     close_gate(points)?;

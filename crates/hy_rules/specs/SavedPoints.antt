@@ -3,11 +3,11 @@ use Rattle.std.specs.Prelude.{◌≡◌, ◌⊎◌, ℕ, ◌<◌, ◌≤◌, ◌
 use Rattle.hy_base.specs.declared.layout.Shape.{Shape}
 use Rattle.hy_base.specs.declared.record.EntryKind.{EntryKind}
 use Rattle.hy_base.specs.Shape.{base_groups}
-use Rattle.hy_rules.specs.LogFormat.{byte_at}
+use Rattle.hy_formats.specs.LogFormat.{byte_at}
 use Rattle.hy_rules.specs.Validation.{verdicts_after, rows_after}
-use Rattle.hy_rules.specs.Rolling.{commits_past}
-use Rattle.hy_rules.specs.Checkpoint.{Checkpoint, IsCheckpoint, base_behind}
-use Rattle.hy_rules.specs.PointFormat.{IsStorable, point_rest, held_point}
+use Rattle.hy_rules.specs.History.{commits_past}
+use Rattle.hy_formats.specs.Checkpoint.{Checkpoint, IsCheckpoint, base_behind}
+use Rattle.hy_formats.specs.PointFormat.{IsStorable, point_rest, held_point}
 
 -- A point stands for the first entries of a log, all whole groups: it has what these alone decide. No later entry matters.
 pub record PointStands (front : List EntryKind) (c : Checkpoint) : Type 0 where

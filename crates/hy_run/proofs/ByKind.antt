@@ -1,8 +1,7 @@
 -- Answers by their kind.
-use Rattle.std.proofs.Common.{◌≡◌, ℕ, refl, sym, subst}
+use Rattle.std.proofs.Common.{◌≡◌, ℕ, refl, sym, subst, Bool, true, false}
 use Rattle.hy_script.specs.declared.why.Why.{Why}
 use Rattle.hy_run.specs.Output.{AnswerKind, IsFault, by_kind, is_before_log, kind_of, log_refused}
-use Rattle.std.proofs.Common.{Bool, true, false}
 use Rattle.hy_run.specs.declared.status.Status.{Status}
 use Rattle.hy_run.specs.declared.status.Status.TheVariants as status
 use Rattle.hy_run.specs.declared.status.Which.{Which}

@@ -3,8 +3,8 @@ use Rattle.std.proofs.Common.{◌≡◌, ◌≢◌, ◌∙◌, ℕ, Bool, true, 
 use Rattle.std.specs.Prelude.{◌⊎◌, Option, Some, Result, Ok, Err, IfErr, IsErr}
 use Rattle.hy_base.specs.declared.layout.Shape.{Shape}
 use Rattle.hy_base.specs.Faults.{Rose}
-use Rattle.hy_rules.specs.declared.damage.LogFault.{LogFault}
-use Rattle.hy_rules.specs.declared.damage.LogPlace.TheVariants.{Page}
+use Rattle.hy_formats.specs.declared.damage.LogFault.{LogFault}
+use Rattle.hy_formats.specs.declared.damage.LogPlace.TheVariants.{Page}
 use Rattle.hy_rules.specs.Recovery.{Recovered}
 use Rattle.hy_disk.specs.Content.{Content}
 use Rattle.hy_base.specs.Spelling.{Text}
@@ -13,9 +13,9 @@ use Rattle.hy_log.specs.declared.error.OpenError.{OpenError}
 use Rattle.hy_log.specs.declared.error.OpenError.TheVariants as opening
 use Rattle.hy_run.specs.Inspection.{IsDamaged, IsLogFault, open_fault}
 use Rattle.hy_restart.specs.Restart.{restart_in}
-use Rattle.hy_run.specs.Devices.{Counts, Found}
+use Rattle.hy_run.specs.Devices.{FaultCounts, Found}
 use Rattle.hy_run.specs.Running.{HasFailed, IsRunOn, IsSaving, LeavesPoint, restart_refused}
-use Rattle.hy_run.specs.RunningParts.{IsRanFault, IsSavingScript, IsScriptLeft, IsScriptOf, Opened, opening_status}
+use Rattle.hy_run.specs.RunningParts.{IsRanFault, IsSavingScript, IsScriptLeft, IsScriptOf, OpenedDevices, opening_status}
 use Rattle.hy_run.specs.declared.status.RunOptions.{RunOptions}
 use Rattle.hy_run.proofs.ByKind.{reaches_log}
 use Rattle.hy_run.specs.Obeying.{ends_early, ends_first}
@@ -34,7 +34,7 @@ pub log_reached : {V : Type 0} (text : Result V Status) (tells : Bool) (expected
 log_reached (Ok v) tells expected faults faults_now is = refl
 log_reached (Err s) tells expected faults faults_now is = reaches_log (IsDamaged tells expected) (λ device. (device ≡ which.Log) × Rose faults faults_now) s is
 
-pub ran_reached : {V : Type 0} (text : Result V Status) (options : RunOptions) (asked : Shape) (on : Opened) (counts : Counts) (acked : ℕ) → IfErr text (IsRanFault options asked on counts acked) → ends_first text ≡ false
+pub ran_reached : {V : Type 0} (text : Result V Status) (options : RunOptions) (asked : Shape) (on : OpenedDevices) (counts : FaultCounts) (acked : ℕ) → IfErr text (IsRanFault options asked on counts acked) → ends_first text ≡ false
 ran_reached (Ok v) options asked on counts acked is = refl
 ran_reached (Err s) options asked on counts acked is =
     reaches_log (λ s. ((IsTrue on.tells → restart_refused (restart_in on.shape on.bodies options.from_point on.points) ≡ Some s) × (acked ≡ length on.bodies)) ⊎ (on.shape ≢ asked)) (HasFailed options counts) s is

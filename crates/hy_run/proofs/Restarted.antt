@@ -5,23 +5,23 @@ use Rattle.hy_base.specs.declared.layout.Shape.{Shape}
 use Rattle.hy_base.specs.declared.record.EntryKind.{EntryKind}
 use Rattle.hy_base.specs.Faults.{Rose}
 use Rattle.hy_base.specs.Spelling.{Text}
-use Rattle.hy_rules.specs.Checkpoint.{Checkpoint}
-use Rattle.hy_rules.specs.Rolling.{Roll}
+use Rattle.hy_formats.specs.Checkpoint.{Checkpoint}
+use Rattle.hy_rolling.specs.Rolling.{Roll}
 use Rattle.hy_rules.specs.SavedPoints.{IsFit, IsLeftBySave}
 use Rattle.hy_disk.specs.Content.{Content, Image, settled}
 use Rattle.hy_disk.specs.Moments.{LeavesOnly}
 use Rattle.hy_disk.proofs.Images.{image_settled}
 use Rattle.hy_disk.proofs.Moments.{joined, weaker}
-use Rattle.hy_log.specs.View.{View}
+use Rattle.hy_log.specs.View.{LogView}
 use Rattle.hy_restart.specs.declared.error.RestartError.{RestartError}
 use Rattle.hy_restart.specs.declared.error.RestartError.TheVariants as restarting
-use Rattle.hy_restart.specs.Restart.{AreFoundIn, IsRestarted, IsSameLog, IsStart, OnlyReads, Refuses, entries_for, restart_in}
+use Rattle.hy_restart.specs.Restart.{AreFoundIn, IsRestarted, IsSameLog, IsStart, OnlyReads, RefusesRestart, entries_for, restart_in}
 use Rattle.hy_restart.proofs.Looks.{reads_then}
 use Rattle.hy_restart.proofs.Saves.{left_same}
-use Rattle.hy_run.specs.Devices.{Counts}
+use Rattle.hy_run.specs.Devices.{FaultCounts}
 use Rattle.hy_run.specs.Output.{is_before_log, kind_of, may_be_saved}
 use Rattle.hy_run.specs.Running.{HasFailed, IsSavingFrom, LeavesPoint, restart_refused}
-use Rattle.hy_run.specs.RunningParts.{IsRanFault, IsSavingPart, Opened, opened_as, restart_fault}
+use Rattle.hy_run.specs.RunningParts.{IsRanFault, IsSavingPart, OpenedDevices, opened_as, restart_fault}
 use Rattle.hy_run.specs.declared.status.RunOptions.{RunOptions}
 use Rattle.hy_run.specs.declared.status.Status.{Status}
 use Rattle.hy_run.specs.declared.status.Which.{Which}
@@ -29,7 +29,7 @@ use Rattle.hy_run.specs.declared.status.Which.TheVariants as which
 use Rattle.hy_run.proofs.ByKind.{fault_by}
 
 -- counts taken from a later moment on, to the same one
-pub record IsLaterThan (before mid : Counts) : Type 0 where
+pub record IsLaterThan (before mid : FaultCounts) : Type 0 where
   pub log : before.log ≤ mid.log
   pub points : before.points ≤ mid.points
   pub log_now : mid.log_now ≡ before.log_now
@@ -39,18 +39,18 @@ pub record IsLaterThan (before mid : Counts) : Type 0 where
 rose_since : (before mid after now : ℕ) → before ≤ mid → after ≡ now → Rose mid after → Rose before now
 rose_since before mid after now later same rose = subst (λ n. Rose before n) same (let r = rose in omega (arith, later, r))
 
-pub failed_since : (options : RunOptions) (before mid : Counts) → IsLaterThan before mid → (one : Which) → HasFailed options mid one → HasFailed options before one
+pub failed_since : (options : RunOptions) (before mid : FaultCounts) → IsLaterThan before mid → (one : Which) → HasFailed options mid one → HasFailed options before one
 failed_since options before mid later which.Log failed = rose_since before.log mid.log mid.log_now before.log_now later.log later.log_now failed
 failed_since options before mid later which.Points failed = (failed.0, rose_since before.points mid.points mid.points_now before.points_now later.points later.points_now failed.1)
 
-pub fault_since : (options : RunOptions) (asked : Shape) (on : Opened) (before mid : Counts) (acked : ℕ) (s : Status) → IsLaterThan before mid → IsRanFault options asked on mid acked s → IsRanFault options asked on before acked s
+pub fault_since : (options : RunOptions) (asked : Shape) (on : OpenedDevices) (before mid : FaultCounts) (acked : ℕ) (s : Status) → IsLaterThan before mid → IsRanFault options asked on mid acked s → IsRanFault options asked on before acked s
 fault_since options asked on before mid acked s later is =
     fault_by (λ n cause. ⊥) (λ x. ((IsTrue on.tells → restart_refused (restart_in on.shape on.bodies options.from_point on.points) ≡ Some x) × (acked ≡ length on.bodies)) ⊎ (on.shape ≢ asked)) ⊥ (HasFailed options mid)
     (λ n cause. ⊥) (λ x. ((IsTrue on.tells → restart_refused (restart_in on.shape on.bodies options.from_point on.points) ≡ Some x) × (acked ≡ length on.bodies)) ⊎ (on.shape ≢ asked)) ⊥ (HasFailed options before)
     (λ n cause never. never) (λ x kind bad. bad) (λ never. never) (failed_since options before mid later) s is
 
 -- what the run works on is what the restart found
-pub same_opened : {D : Type 0} (tells : Bool) (content : D → Content) (old new : View D) (points mid : D) → IsSameLog old new → content mid ≡ content points → opened_as tells content new mid ≡ opened_as tells content old points
+pub same_opened : {D : Type 0} (tells : Bool) (content : D → Content) (old new : LogView D) (points mid : D) → IsSameLog old new → content mid ≡ content points → opened_as tells content new mid ≡ opened_as tells content old points
 same_opened tells content old new points mid same there = λ i. record { tells = tells; shape = same.shape i; bodies = same.bodies i; points = (there i).seen }
 
 pub found_same : (tells : Bool) (s t : Shape) (old new : List (List ℕ)) (entries : List EntryKind) → s ≡ t → new ≡ old → AreFoundIn tells s old entries → AreFoundIn tells t new entries
@@ -80,7 +80,7 @@ module _ {D : Type 0} (options : RunOptions) (content : D → Content) (moment :
         joined moment left_since old mid new (IsLeftBySave shape is.entries is.point (content old).seen) before after;
   }
 
-  pub leaves_then : (shape : Shape) (on : Opened) (may : Bool) (acked : ℕ) → (options.from_point ≡ false → mid ≡ old)
+  pub leaves_then : (shape : Shape) (on : OpenedDevices) (may : Bool) (acked : ℕ) → (options.from_point ≡ false → mid ≡ old)
       → LeavesPoint options content moment left_since faults_of mid new may (IsSavingPart options shape on content moment left_since mid new acked)
       → LeavesPoint options content moment left_since faults_of old new may (IsSavingPart options shape on content moment left_since old new acked)
   leaves_then shape on may acked unasked is = record {
@@ -108,7 +108,7 @@ refused_by (Err e) f is = let same : e ≡ f = cc is in ap Err same
 refused_as : (r : Result (List EntryKind × Option Checkpoint) RestartError) (e : RestartError) (s : Status) → restart_refused (Err e) ≡ Some s → entries_for r ≡ Err e → restart_refused r ≡ Some s
 refused_as r e s told is = ap restart_refused (refused_by r e is) ∙ told
 
-pub restart_cause : (options : RunOptions) (asked : Shape) (on : Opened) (counts : Counts) (acked : ℕ) (e : RestartError) → (IsTrue on.tells → Refuses e (entries_for (restart_in on.shape on.bodies options.from_point on.points))) → acked ≡ length on.bodies
+pub restart_cause : (options : RunOptions) (asked : Shape) (on : OpenedDevices) (counts : FaultCounts) (acked : ℕ) (e : RestartError) → (IsTrue on.tells → RefusesRestart e (entries_for (restart_in on.shape on.bodies options.from_point on.points))) → acked ≡ length on.bodies
     → (e ≡ restarting.LogDevice → Rose counts.log counts.log_now) → (e ≡ restarting.PointsDevice → HasFailed options counts which.Points) → IsRanFault options asked on counts acked (restart_fault e)
 restart_cause options asked on counts acked restarting.Memory refuses counted log points = tt
 restart_cause options asked on counts acked restarting.LogDevice refuses counted log points = log refl

@@ -1,6 +1,6 @@
 //! `load`: a generated script and schedule, run as a simulation.
 ghost use Rattle.std.specs.Prelude.{◌≡◌, true, IfOk, IfErr};
-ghost use Rattle.hy_base.specs.Shape.{IsWithin};
+ghost use Rattle.hy_base.specs.Limits.{IsLoadSize, IsThreadCount};
 ghost use Rattle.hy_rules.specs.Runs.{is_finished};
 ghost use Rattle.hy_rules.specs.Summary.{summary_at};
 ghost use Rattle.hy_run.specs.Loading.{IsLoadText};
@@ -47,8 +47,8 @@ pub fn generated_text<R: Threads + Sync, G: Gate + Sync>(
     threads: usize,
     gate: &G,
 ) -> Result<Vec<u8>, Status>
-    requires size { IsWithin 1 80000 size }
-    requires threads { IsWithin 1 16 threads }
+    requires size { IsLoadSize size }
+    requires threads { IsThreadCount threads }
     ensures text { IfOk result (λ text. IsLoadText seed size text.items) }
     ensures memory { IfErr result (λ status. status ≡ Status.Memory) }
 {

@@ -9,11 +9,11 @@ use Rattle.hy_base.specs.Script.{Workload}
 use Rattle.hy_base.specs.Shape.{IsWithin, is_within}
 use Rattle.hy_base.specs.Spelling.{Text, event_words}
 use Rattle.hy_script.specs.Fields.{and_then, one_number, two_numbers}
-use Rattle.hy_script.specs.Forms.{judged}
-use Rattle.hy_script.specs.Grammar.{client_event, event_of, makes_if, publish, stop}
+use Rattle.hy_script.specs.Forms.{judged_words}
+use Rattle.hy_script.specs.Grammar.{event_of_client, event_of, makes_if, publish, stop}
 use Rattle.hy_script.specs.Laws.{IsEventSpellable, SpellsTheEventsItReads}
 use Rattle.hy_script.specs.Lines.{numbered_lines, words_of}
-use Rattle.hy_script.specs.Reading.{events_of, refused}
+use Rattle.hy_script.specs.Reading.{events_of, refused_at}
 use Rattle.hy_script.specs.declared.refused.EventLine.{EventLine}
 use Rattle.hy_script.specs.declared.refused.Refused.{Refused}
 use Rattle.hy_script.specs.declared.why.Why.{Why}
@@ -24,7 +24,7 @@ use Rattle.hy_script.proofs.FieldsRead.{and_then_was, branch, one_was, two_was, 
 abbrev pub IsEventLine : Workload → List Text → Event → Type 0
 IsEventLine script words event = (words ≡ event_words event) × IsEventSpellable script event
 
-ranged_was : (t : Bool) (made event : Event) → judged (makes_if ((t, Range) ∷ []) made) ≡ Ok event → (t ≡ true) × (made ≡ event)
+ranged_was : (t : Bool) (made event : Event) → judged_words (makes_if ((t, Range) ∷ []) made) ≡ Ok event → (t ≡ true) × (made ≡ event)
 ranged_was true made event e = (refl, cc)
 ranged_was false made event e = cc
 
@@ -32,29 +32,29 @@ module _ (script : Workload) (word : Text) (fields : List Text) (event : Event) 
   client_was : (name : Text) (made : ℕ → Event) → bytes_eq word name ≡ true → client_line script made fields ≡ Ok event
       → ((client : ℕ) → IsWithin 1 (length script.clients) client → IsEventLine script (name ∷ decimal client ∷ []) (made client)) → IsEventLine script (word ∷ fields) event
   client_was name made named e good =
-      let step = and_then_was (one_number fields) (λ client. judged (client_event script (made client) client)) event e in
+      let step = and_then_was (one_number fields) (λ client. judged_words (event_of_client script (made client) client)) event e in
       let tested = ranged_was (is_within 1 (length script.clients) step.0) (made step.0) event step.2 in
       let words = words_are word name fields _ named (one_was fields step.0 step.1).0 in
       subst (λ w. IsEventLine script w event) (sym words) (subst (IsEventLine script (name ∷ decimal step.0 ∷ [])) tested.1 (good step.0 (within_was 1 (length script.clients) step.0 tested.0)))
 
   pad_was : bytes_eq word (codes "p") ≡ true → server_line script fields ≡ Ok event → IsEventLine script (word ∷ fields) event
   pad_was named e =
-      let step = and_then_was (one_number fields) (λ server. judged (makes_if ((is_within 1 script.servers server, Range) ∷ []) (Pad server))) event e in
+      let step = and_then_was (one_number fields) (λ server. judged_words (makes_if ((is_within 1 script.servers server, Range) ∷ []) (Pad server))) event e in
       let tested = ranged_was (is_within 1 script.servers step.0) (Pad step.0) event step.2 in
       subst (IsEventLine script (word ∷ fields)) tested.1 (words_are word (codes "p") fields _ named (one_was fields step.0 step.1).0, within_was 1 script.servers step.0 tested.0)
 
-  publish_was : bytes_eq word (codes "r") ≡ true → and_then (two_numbers fields) (λ p. judged (publish script p.0 p.1)) ≡ Ok event → IsEventLine script (word ∷ fields) event
+  publish_was : bytes_eq word (codes "r") ≡ true → and_then (two_numbers fields) (λ p. judged_words (publish script p.0 p.1)) ≡ Ok event → IsEventLine script (word ∷ fields) event
   publish_was named e =
-      let step = and_then_was (two_numbers fields) (λ p. judged (publish script p.0 p.1)) event e in
+      let step = and_then_was (two_numbers fields) (λ p. judged_words (publish script p.0 p.1)) event e in
       let p = step.0 in
       let tested = ranged_was (is_within 1 script.servers p.0 && nat_le p.1 4294967295) (Publish p.0 p.1) event step.2 in
       let parts = and_parts (is_within 1 script.servers p.0) (nat_le p.1 4294967295) tested.0 in
       let small : p.1 < 2 ^ 32 = omega (arith, leb-true p.1 4294967295 parts.1) in
       subst (IsEventLine script (word ∷ fields)) tested.1 (words_are word (codes "r") fields _ named (two_was fields p step.1).words, (within_was 1 script.servers p.0 parts.0, small))
 
-  stop_was : bytes_eq word (codes "t") ≡ true → and_then (two_numbers fields) (λ p. judged (stop p.0 p.1)) ≡ Ok event → IsEventLine script (word ∷ fields) event
+  stop_was : bytes_eq word (codes "t") ≡ true → and_then (two_numbers fields) (λ p. judged_words (stop p.0 p.1)) ≡ Ok event → IsEventLine script (word ∷ fields) event
   stop_was named e =
-      let step = and_then_was (two_numbers fields) (λ p. judged (stop p.0 p.1)) event e in
+      let step = and_then_was (two_numbers fields) (λ p. judged_words (stop p.0 p.1)) event e in
       let p = step.0 in
       let tested = ranged_was (is_within 1 4 p.0 && nat_le p.1 2) (Stop p.0 p.1) event step.2 in
       let parts = and_parts (is_within 1 4 p.0) (nat_le p.1 2) tested.0 in
@@ -86,7 +86,7 @@ abbrev with_more : ℕ → Event → Result (List EventLine) Refused → Result 
 with_more number event more = elim more [ Err fault ↦ Err fault | Ok events ↦ Ok (record { line = number; event = event } ∷ events) ]
 
 abbrev with_event : ℕ → Result Event Why → Result (List EventLine) Refused → Result (List EventLine) Refused
-with_event number first more = elim first [ Err why ↦ refused number why | Ok event ↦ with_more number event more ]
+with_event number first more = elim first [ Err why ↦ refused_at number why | Ok event ↦ with_more number event more ]
 
 more_was : (number : ℕ) (event : Event) (more : Result (List EventLine) Refused) (events : List EventLine) → with_more number event more ≡ Ok events
     → (rest : List EventLine) × (more ≡ Ok rest) × (record { line = number; event = event } ∷ rest ≡ events)

@@ -8,7 +8,7 @@ use Prim.Native.String.{String}
 use Rattle.hy_base.specs.Script.{Workload}
 use Rattle.hy_script.specs.Grammar.{event_forms, publish, stop}
 use Rattle.hy_base.specs.Spelling.{Text, number_of}
-use Rattle.hy_script.specs.Forms.{Meaning, LineForm, Alone, OneNumber, TwoNumbers, ThreeNumbers, NumberAndText, judged, read_line, read_fields, meaning_of, field_count, is_blank}
+use Rattle.hy_script.specs.Forms.{Meaning, LineForm, Alone, OneNumber, TwoNumbers, ThreeNumbers, NumberAndText, judged_words, read_line, read_fields, meaning_of, field_count, is_blank}
 use Rattle.hy_script.specs.Fields.{and_then, one_number, two_numbers, three_numbers, number_and_text, no_fields}
 use Rattle.hy_script.specs.declared.why.Why.TheVariants.{Form, Number}
 
@@ -17,18 +17,18 @@ same_either true x = refl
 same_either false x = refl
 
 found_one : {T : Type 0} (found : Option ℕ) (meaning : ℕ → Meaning T)
-    → option_map_or (λ m. judged m) (option_and_then (λ l. Some (meaning l)) found) (Err Number) ≡ and_then (ok_or found Number) (λ n. judged (meaning n))
+    → option_map_or (λ m. judged_words m) (option_and_then (λ l. Some (meaning l)) found) (Err Number) ≡ and_then (ok_or found Number) (λ n. judged_words (meaning n))
 found_one None meaning = refl
 found_one (Some n) meaning = refl
 
 one_field : {T : Type 0} (t : Bool) (meaning : ℕ → Meaning T) (found : Option ℕ)
-    → (if t || false then Err Form else option_map_or (λ m. judged m) (option_and_then (λ l. Some (meaning l)) found) (Err Number))
-    ≡ and_then (if t then Err Form else ok_or found Number) (λ n. judged (meaning n))
+    → (if t || false then Err Form else option_map_or (λ m. judged_words m) (option_and_then (λ l. Some (meaning l)) found) (Err Number))
+    ≡ and_then (if t then Err Form else ok_or found Number) (λ n. judged_words (meaning n))
 one_field true meaning found = refl
 one_field false meaning found = found_one found meaning
 
 by_count : {T : Type 0} (s e : Bool) (form : LineForm T) (fields : List Text) → e ≡ false
-    → (if s then Err Form else elim (if e then Some form else None) [ None ↦ Err Form | Some f ↦ option_map_or (λ m. judged m) (meaning_of f fields) (Err Number) ]) ≡ Err Form
+    → (if s then Err Form else elim (if e then Some form else None) [ None ↦ Err Form | Some f ↦ option_map_or (λ m. judged_words m) (meaning_of f fields) (Err Number) ]) ≡ Err Form
 by_count true e form fields not = refl
 by_count false true form fields not = cc
 by_count false false form fields not = refl
@@ -38,21 +38,21 @@ pub other_count : {T : Type 0} (form : LineForm T) (fields : List Text) → (fie
 other_count form fields not = by_count (list_any is_blank fields) (field_count form == length fields) form fields not
 
 pub read_one : {T : Type 0} (name : String) (meaning : ℕ → Meaning T) (fields : List Text)
-    → read_fields (OneNumber name meaning ∷ []) fields ≡ and_then (one_number fields) (λ n. judged (meaning n))
+    → read_fields (OneNumber name meaning ∷ []) fields ≡ and_then (one_number fields) (λ n. judged_words (meaning n))
 read_one name meaning [] = refl
 read_one name meaning (a ∷ []) = one_field (is_blank a) meaning (number_of a)
 read_one name meaning (a ∷ b ∷ rest) = other_count (OneNumber name meaning) (a ∷ b ∷ rest) (ne_eqb 1 (length (a ∷ b ∷ rest)) (omega arith))
 
 two_fields : {T : Type 0} (t : Bool) (meaning : ℕ → ℕ → Meaning T) (x y : Option ℕ)
-    → (if t then Err Form else option_map_or (λ m. judged m) (option_and_then (λ l. option_and_then (λ m. Some (meaning l m)) y) x) (Err Number))
-    ≡ and_then {A = ℕ × ℕ} (if t then Err Form else and_then (ok_or x Number) (λ l. and_then {B = ℕ × ℕ} (ok_or y Number) (λ m. Ok (l, m)))) (λ p. judged (meaning p.0 p.1))
+    → (if t then Err Form else option_map_or (λ m. judged_words m) (option_and_then (λ l. option_and_then (λ m. Some (meaning l m)) y) x) (Err Number))
+    ≡ and_then {A = ℕ × ℕ} (if t then Err Form else and_then (ok_or x Number) (λ l. and_then {B = ℕ × ℕ} (ok_or y Number) (λ m. Ok (l, m)))) (λ p. judged_words (meaning p.0 p.1))
 two_fields true meaning x y = refl
 two_fields false meaning None y = refl
 two_fields false meaning (Some l) None = refl
 two_fields false meaning (Some l) (Some m) = refl
 
 pub read_two : {T : Type 0} (name : String) (meaning : ℕ → ℕ → Meaning T) (fields : List Text)
-    → read_fields (TwoNumbers name meaning ∷ []) fields ≡ and_then (two_numbers fields) (λ p. judged (meaning p.0 p.1))
+    → read_fields (TwoNumbers name meaning ∷ []) fields ≡ and_then (two_numbers fields) (λ p. judged_words (meaning p.0 p.1))
 read_two name meaning [] = refl
 read_two name meaning (a ∷ []) = other_count (TwoNumbers name meaning) (a ∷ []) refl
 read_two name meaning (a ∷ b ∷ []) = two_fields (list_any is_blank (a ∷ b ∷ [])) meaning (number_of a) (number_of b)
@@ -64,16 +64,16 @@ one_letter (c ∷ []) b below least e = ap (λ x. x ∷ []) e
 one_letter (c ∷ d ∷ rest) b below least e = absurd (omega arith)
 
 pub publish_line : (script : Workload) (words rest : List Text) (word : Text) → words ≡ word ∷ rest → word ≡ 114 ∷ []
-    → read_line (event_forms script) words ≡ and_then (two_numbers rest) (λ p. judged (publish script p.0 p.1))
+    → read_line (event_forms script) words ≡ and_then (two_numbers rest) (λ p. judged_words (publish script p.0 p.1))
 publish_line script words rest word e w = ap (read_line (event_forms script)) (e ∙ ap (λ x. x ∷ rest) w) ∙ read_two "r" (publish script) rest
 
 pub stop_line : (script : Workload) (words rest : List Text) (word : Text) → words ≡ word ∷ rest → word ≡ 116 ∷ []
-    → read_line (event_forms script) words ≡ and_then (two_numbers rest) (λ p. judged (stop p.0 p.1))
+    → read_line (event_forms script) words ≡ and_then (two_numbers rest) (λ p. judged_words (stop p.0 p.1))
 stop_line script words rest word e w = ap (read_line (event_forms script)) (e ∙ ap (λ x. x ∷ rest) w) ∙ read_two "t" stop rest
 
 three_fields : {T : Type 0} (t : Bool) (meaning : ℕ → ℕ → ℕ → Meaning T) (x y z : Option ℕ)
-    → (if t then Err Form else option_map_or (λ m. judged m) (option_and_then (λ l. option_and_then (λ m. option_and_then (λ n. Some (meaning l m n)) z) y) x) (Err Number))
-    ≡ and_then {A = ℕ × ℕ × ℕ} (if t then Err Form else and_then (ok_or x Number) (λ l. and_then {B = ℕ × ℕ × ℕ} (ok_or y Number) (λ m. and_then {B = ℕ × ℕ × ℕ} (ok_or z Number) (λ n. Ok (l, m, n))))) (λ p. judged (meaning p.0 p.1 p.2))
+    → (if t then Err Form else option_map_or (λ m. judged_words m) (option_and_then (λ l. option_and_then (λ m. option_and_then (λ n. Some (meaning l m n)) z) y) x) (Err Number))
+    ≡ and_then {A = ℕ × ℕ × ℕ} (if t then Err Form else and_then (ok_or x Number) (λ l. and_then {B = ℕ × ℕ × ℕ} (ok_or y Number) (λ m. and_then {B = ℕ × ℕ × ℕ} (ok_or z Number) (λ n. Ok (l, m, n))))) (λ p. judged_words (meaning p.0 p.1 p.2))
 three_fields true meaning x y z = refl
 three_fields false meaning None y z = refl
 three_fields false meaning (Some l) None z = refl
@@ -81,7 +81,7 @@ three_fields false meaning (Some l) (Some m) None = refl
 three_fields false meaning (Some l) (Some m) (Some n) = refl
 
 pub read_three : {T : Type 0} (name : String) (meaning : ℕ → ℕ → ℕ → Meaning T) (fields : List Text)
-    → read_fields (ThreeNumbers name meaning ∷ []) fields ≡ and_then (three_numbers fields) (λ p. judged (meaning p.0 p.1 p.2))
+    → read_fields (ThreeNumbers name meaning ∷ []) fields ≡ and_then (three_numbers fields) (λ p. judged_words (meaning p.0 p.1 p.2))
 read_three name meaning [] = refl
 read_three name meaning (a ∷ []) = other_count (ThreeNumbers name meaning) (a ∷ []) refl
 read_three name meaning (a ∷ b ∷ []) = other_count (ThreeNumbers name meaning) (a ∷ b ∷ []) refl
@@ -89,20 +89,20 @@ read_three name meaning (a ∷ b ∷ c ∷ []) = three_fields (list_any is_blank
 read_three name meaning (a ∷ b ∷ c ∷ d ∷ rest) = other_count (ThreeNumbers name meaning) (a ∷ b ∷ c ∷ d ∷ rest) (ne_eqb 3 (length (a ∷ b ∷ c ∷ d ∷ rest)) (omega arith))
 
 text_fields : {T : Type 0} (t : Bool) (meaning : ℕ → Text → Meaning T) (x : Option ℕ) (text : Text)
-    → (if t then Err Form else option_map_or (λ m. judged m) (option_and_then (λ l. Some (meaning l text)) x) (Err Number))
-    ≡ and_then {A = ℕ × Text} (if t then Err Form else and_then (ok_or x Number) (λ l. Ok (l, text))) (λ p. judged (meaning p.0 p.1))
+    → (if t then Err Form else option_map_or (λ m. judged_words m) (option_and_then (λ l. Some (meaning l text)) x) (Err Number))
+    ≡ and_then {A = ℕ × Text} (if t then Err Form else and_then (ok_or x Number) (λ l. Ok (l, text))) (λ p. judged_words (meaning p.0 p.1))
 text_fields true meaning x text = refl
 text_fields false meaning None text = refl
 text_fields false meaning (Some l) text = refl
 
 pub read_text : {T : Type 0} (name : String) (meaning : ℕ → Text → Meaning T) (fields : List Text)
-    → read_fields (NumberAndText name meaning ∷ []) fields ≡ and_then (number_and_text fields) (λ p. judged (meaning p.0 p.1))
+    → read_fields (NumberAndText name meaning ∷ []) fields ≡ and_then (number_and_text fields) (λ p. judged_words (meaning p.0 p.1))
 read_text name meaning [] = refl
 read_text name meaning (a ∷ []) = other_count (NumberAndText name meaning) (a ∷ []) refl
 read_text name meaning (a ∷ b ∷ []) = text_fields (list_any is_blank (a ∷ b ∷ [])) meaning (number_of a) b
 read_text name meaning (a ∷ b ∷ c ∷ rest) = other_count (NumberAndText name meaning) (a ∷ b ∷ c ∷ rest) (ne_eqb 2 (length (a ∷ b ∷ c ∷ rest)) (omega arith))
 
 pub read_alone : {T : Type 0} (name : String) (meaning : Meaning T) (fields : List Text)
-    → read_fields (Alone name meaning ∷ []) fields ≡ and_then (no_fields fields) (λ u. judged meaning)
+    → read_fields (Alone name meaning ∷ []) fields ≡ and_then (no_fields fields) (λ u. judged_words meaning)
 read_alone name meaning [] = refl
 read_alone name meaning (a ∷ rest) = other_count (Alone name meaning) (a ∷ rest) (ne_eqb 0 (length (a ∷ rest)) (omega arith))

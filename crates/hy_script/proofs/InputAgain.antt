@@ -14,12 +14,12 @@ use Rattle.hy_base.specs.Script.{Workload}
 use Rattle.hy_base.specs.Shape.{IsWithin, is_within}
 use Rattle.hy_base.specs.Spelling.{Text, event_words, line}
 use Rattle.hy_script.specs.Fields.{and_then, one_number}
-use Rattle.hy_script.specs.Forms.{judged}
-use Rattle.hy_script.specs.Grammar.{Place, Outset, Listing, Scheduled, client_event, event_of, makes_if, publish, stop}
-use Rattle.hy_script.specs.Laws.{IsEventSpellable, IsSpellable, ReadsItsInput, event_lines}
+use Rattle.hy_script.specs.Forms.{judged_words}
+use Rattle.hy_script.specs.Grammar.{Place, AtStart, Listing, Scheduled, event_of_client, event_of, makes_if, publish, stop}
+use Rattle.hy_script.specs.Laws.{IsEventSpellable, IsScriptSpellable, ReadsItsInput, event_lines}
 use Rattle.hy_script.specs.Lines.{lines_of, numbered_lines, offset_after, words_of}
 use Rattle.hy_script.specs.Parts.{after_listing, leading}
-use Rattle.hy_script.specs.Reading.{events_of, place_after, place_after_all, read_schedule, refused, start_after}
+use Rattle.hy_script.specs.Reading.{events_of, place_after, place_after_all, read_schedule, refused_at, start_after}
 use Rattle.hy_script.specs.ScriptFields.{listing_line}
 use Rattle.hy_script.specs.Spelling.{input_text, schedule_text, script_lines, script_text, text_of_lines}
 use Rattle.hy_script.specs.declared.refused.EventLine.{EventLine}
@@ -35,17 +35,17 @@ use Rattle.hy_script.proofs.ScriptAgain.{script_walks}
 
 -- events
 
-ranged_again : (t : Bool) (made : Event) → t ≡ true → judged (makes_if ((t, Range) ∷ []) made) ≡ Ok made
+ranged_again : (t : Bool) (made : Event) → t ≡ true → judged_words (makes_if ((t, Range) ∷ []) made) ≡ Ok made
 ranged_again true made e = refl
 ranged_again false made e = cc
 
 client_event_again : (script : Workload) (made : ℕ → Event) (client : ℕ) → length script.clients ≤ 128 → IsWithin 1 (length script.clients) client
-    → and_then (one_number (decimal client ∷ [])) (λ c. judged (client_event script (made c) c)) ≡ Ok (made client)
+    → and_then (one_number (decimal client ∷ [])) (λ c. judged_words (event_of_client script (made c) c)) ≡ Ok (made client)
 client_event_again script made client few within =
-    ap (λ read. and_then read (λ c. judged (client_event script (made c) c))) (one_again client (omega (arith, few, within.at_most)))
+    ap (λ read. and_then read (λ c. judged_words (event_of_client script (made c) c))) (one_again client (omega (arith, few, within.at_most)))
     ∙ ranged_again (is_within 1 (length script.clients) client) (made client) (within_is 1 (length script.clients) client within)
 
-module _ (script : Workload) (s : IsSpellable script) where
+module _ (script : Workload) (s : IsScriptSpellable script) where
   few : length script.clients ≤ 128
   few = few_clients script s.lawful
 
@@ -58,14 +58,14 @@ module _ (script : Workload) (s : IsSpellable script) where
   event_flat (End client) e = client_event_again script (λ c. End c) client few e
   event_flat (Refuse client) e = client_event_again script (λ c. Refuse c) client few e
   event_flat (Pad server) e =
-      ap (λ read. and_then read (λ n. judged (makes_if ((is_within 1 script.servers n, Range) ∷ []) (Pad n)))) (one_again server (omega (arith, servers, e.at_most)))
+      ap (λ read. and_then read (λ n. judged_words (makes_if ((is_within 1 script.servers n, Range) ∷ []) (Pad n)))) (one_again server (omega (arith, servers, e.at_most)))
       ∙ ranged_again (is_within 1 script.servers server) (Pad server) (within_is 1 script.servers server e)
   event_flat (Publish server upto) e =
-      ap (λ read. and_then read (λ p. judged (publish script p.0 p.1))) (two_again server upto (omega (arith, servers, e.0.at_most)) (omega (arith, e.1)))
+      ap (λ read. and_then read (λ p. judged_words (publish script p.0 p.1))) (two_again server upto (omega (arith, servers, e.0.at_most)) (omega (arith, e.1)))
       ∙ ranged_again (is_within 1 script.servers server && nat_le upto 4294967295) (Publish server upto)
       (and_from (is_within 1 script.servers server) (nat_le upto 4294967295) (within_is 1 script.servers server e.0) (le-leb upto 4294967295 (omega (arith, e.1))))
   event_flat (Stop call pattern) e =
-      ap (λ read. and_then read (λ p. judged (stop p.0 p.1))) (two_again call pattern (omega (arith, e.0.at_most)) (omega (arith, e.1)))
+      ap (λ read. and_then read (λ p. judged_words (stop p.0 p.1))) (two_again call pattern (omega (arith, e.0.at_most)) (omega (arith, e.1)))
       ∙ ranged_again (is_within 1 4 call && nat_le pattern 2) (Stop call pattern)
       (and_from (is_within 1 4 call) (nat_le pattern 2) (within_is 1 4 call e.0) (le-leb pattern 2 e.1))
 
@@ -91,7 +91,7 @@ module _ (script : Workload) (s : IsSpellable script) where
 
   abbrev with_event : ℕ → Result (List EventLine) Refused → Result Event Why → Result (List EventLine) Refused
   with_event number more first =
-      elim first [ Err why ↦ refused number why | Ok event ↦ elim more [ Err fault ↦ Err fault | Ok events ↦ Ok (record { line = number; event = event } ∷ events) ] ]
+      elim first [ Err why ↦ refused_at number why | Ok event ↦ elim more [ Err fault ↦ Err fault | Ok events ↦ Ok (record { line = number; event = event } ∷ events) ] ]
 
   pub events_again : (events : List Event) (number : ℕ) → AllByRecursion (IsEventSpellable script) events → read_schedule (schedule_text events) number script ≡ Ok (event_lines number events)
   events_again [] number all = refl
@@ -128,7 +128,7 @@ schedule_speech = record { visible = (refl, tt); says_some = refl }
 abbrev front_lines : Workload → List (List Text)
 front_lines script = script_lines script ++ schedule_words ∷ []
 
-module _ (script : Workload) (events : List Event) (s : IsSpellable script) where
+module _ (script : Workload) (events : List Event) (s : IsScriptSpellable script) where
   abbrev rest : Text
   rest = text_of_lines (schedule_words ∷ []) ++ schedule_text events
 
@@ -165,14 +165,14 @@ module _ (script : Workload) (events : List Event) (s : IsSpellable script) wher
       ∙ drop-append_seam (text_of_lines (front_lines script)) (schedule_text events)
 
   abbrev onto : ℕ → Result Place Why → Result Place Refused
-  onto number read = elim read [ Ok next ↦ place_after_all true next (numbered_lines (number + 1) (schedule_text events)) | Err why ↦ refused number why ]
+  onto number read = elim read [ Ok next ↦ place_after_all true next (numbered_lines (number + 1) (schedule_text events)) | Err why ↦ refused_at number why ]
 
   schedule_line : (number : ℕ) → place_after true (Listing script) (number, join_with_byte 32 schedule_words) ≡ Ok (Scheduled script number)
   schedule_line number =
       sym (listing_leads true number script (words_of (join_with_byte 32 schedule_words)))
       ∙ ap (leading (after_listing script number)) (ap (listing_line true script) (words_spelled schedule_words schedule_speech) ∙ schedule_again script)
 
-  place_is : place_after_all true Outset (numbered_lines 1 (input_text script events)) ≡ Ok (Scheduled script count)
+  place_is : place_after_all true AtStart (numbered_lines 1 (input_text script events)) ≡ Ok (Scheduled script count)
   place_is =
       (script_walks true script s).walk 1 rest
       ∙ ap (place_after_all true (Listing script)) (numbered_first count schedule_words [] (schedule_text events) schedule_speech)

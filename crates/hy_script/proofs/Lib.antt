@@ -15,3 +15,5 @@ mod LinesSpelled
 mod LinesAgain
 mod ScriptAgain
 mod InputAgain
+mod InputEvents
+pub mod InputLines

@@ -8,7 +8,7 @@ use Rattle.hy_base.specs.Script.{Workload, client_count}
 use Rattle.hy_base.specs.Shape.{is_within}
 use Rattle.hy_base.specs.Value.{is_value}
 use Rattle.hy_base.specs.Spelling.{Text}
-use Rattle.hy_script.specs.Forms.{Meaning, LineForm, judged, read_line, read_fields}
+use Rattle.hy_script.specs.Forms.{Meaning, LineForm, judged_words, read_line, read_fields}
 use Rattle.hy_script.specs.Fields.{and_then, one_number, two_numbers, three_numbers, number_and_text, no_fields}
 use Rattle.hy_script.specs.Grammar.{Place, Listing, Programming, Scheduled, client_form, begin_form, schedule_form, forms_at, makes, makes_if, gains, with_client, with_program, last_program_count}
 use Rattle.hy_script.specs.Parts.{leading, after_listing, after_program_line}
@@ -22,22 +22,22 @@ use Rattle.hy_script.proofs.FieldLemmas.{read_alone, read_one, read_two, read_th
 
 -- what leads on for each reading of the fields leads on
 over : {A B : Type 0} (place : B → Place) (read : Result A Why) (meaning : A → Meaning Place) (next : A → Result B Why)
-    → ((a : A) → judged (meaning a) ≡ leading place (next a)) → and_then read (λ a. judged (meaning a)) ≡ leading place (and_then read next)
+    → ((a : A) → judged_words (meaning a) ≡ leading place (next a)) → and_then read (λ a. judged_words (meaning a)) ≡ leading place (and_then read next)
 over place (Ok a) meaning next each = each a
 over place (Err why) meaning next each = refl
 
 counted : (t : Bool) (script : Workload) (commands : List Command) (c : Command)
-    → judged (makes_if ((t, Count) ∷ []) (Programming script (commands ++ c ∷ []))) ≡ leading (after_program_line script commands) (if t then Ok (Next c) else Err Count)
+    → judged_words (makes_if ((t, Count) ∷ []) (Programming script (commands ++ c ∷ []))) ≡ leading (after_program_line script commands) (if t then Ok (Next c) else Err Count)
 counted true script commands c = refl
 counted false script commands c = refl
 
 valued : (s t : Bool) (script : Workload) (commands : List Command) (c : Command)
-    → judged (makes_if ((s, Value) ∷ (t, Count) ∷ []) (Programming script (commands ++ c ∷ []))) ≡ leading (after_program_line script commands) (if s then (if t then Ok (Next c) else Err Count) else Err Value)
+    → judged_words (makes_if ((s, Value) ∷ (t, Count) ∷ []) (Programming script (commands ++ c ∷ []))) ≡ leading (after_program_line script commands) (if s then (if t then Ok (Next c) else Err Count) else Err Value)
 valued true t script commands c = counted t script commands c
 valued false t script commands c = refl
 
 scanned : (r o t : Bool) (script : Workload) (commands : List Command) (c : Command)
-    → judged (makes_if ((r, Range) ∷ (o, Order) ∷ (t, Count) ∷ []) (Programming script (commands ++ c ∷ [])))
+    → judged_words (makes_if ((r, Range) ∷ (o, Order) ∷ (t, Count) ∷ []) (Programming script (commands ++ c ∷ [])))
     ≡ leading (after_program_line script commands) (and_then (if r then (if o then Ok c else Err Order) else Err Range) (λ d. if t then Ok (Next d) else Err Count))
 scanned true true t script commands c = counted t script commands c
 scanned true false t script commands c = refl
@@ -116,18 +116,18 @@ program_leads sim number script commands (word ∷ fields) = by_get sim number s
 -- between programs
 
 client_room : (t : Bool) (script : Workload) (number server : ℕ)
-    → judged (makes_if ((t, Count) ∷ []) (Listing (with_client server script))) ≡ leading (after_listing script number) (if t then Ok (Client server) else Err Count)
+    → judged_words (makes_if ((t, Count) ∷ []) (Listing (with_client server script))) ≡ leading (after_listing script number) (if t then Ok (Client server) else Err Count)
 client_room true script number server = refl
 client_room false script number server = refl
 
 client_tests : (r : Bool) (script : Workload) (number server : ℕ)
-    → judged (makes_if ((r, Range) ∷ (nat_lt (client_count script.clients server) 16, Count) ∷ []) (Listing (with_client server script)))
+    → judged_words (makes_if ((r, Range) ∷ (nat_lt (client_count script.clients server) 16, Count) ∷ []) (Listing (with_client server script)))
     ≡ leading (after_listing script number) (and_then (if r then Ok server else Err Range) (λ s. if nat_lt (client_count script.clients s) 16 then Ok (Client s) else Err Count))
 client_tests true script number server = client_room (nat_lt (client_count script.clients server) 16) script number server
 client_tests false script number server = refl
 
 begin_tests : (t : Bool) (script : Workload) (number : ℕ)
-    → judged (makes_if ((t, Count) ∷ []) (Programming script [])) ≡ leading (after_listing script number) (if t then Ok Begin else Err Count)
+    → judged_words (makes_if ((t, Count) ∷ []) (Programming script [])) ≡ leading (after_listing script number) (if t then Ok Begin else Err Count)
 begin_tests true script number = refl
 begin_tests false script number = refl
 

@@ -6,9 +6,9 @@ use Rattle.std.proofs.lemmas.List.Sums.{sum_by-append}
 use Rattle.hy_base.specs.Script.{Workload}
 use Rattle.hy_base.specs.Spelling.{Text}
 use Rattle.hy_script.specs.Lines.{lines_of, numbered_lines, is_skipped, offset_after}
-use Rattle.hy_script.specs.Grammar.{Place, Outset, Scheduled}
+use Rattle.hy_script.specs.Grammar.{Place, AtStart, Scheduled}
 use Rattle.hy_script.specs.Parts.{place_of, IsPlace}
-use Rattle.hy_script.specs.Reading.{refused, place_after, place_after_all, read_script, ended}
+use Rattle.hy_script.specs.Reading.{refused_at, place_after, place_after_all, read_script, script_ended}
 use Rattle.hy_script.specs.declared.reader.Place.{Place as PlaceCode}
 use Rattle.hy_script.specs.declared.refused.Reading.{Reading}
 use Rattle.hy_script.specs.declared.refused.Refused.{Refused}
@@ -21,7 +21,7 @@ abbrev pub cells : List Text → ℕ
 cells lines = sum_by (λ line. length line + 1) lines
 
 pub record Stands (sim : Bool) (bytes : Text) (place : PlaceCode) (number : ℕ) (rest : Text) : Type 0 where
-  pub read : place_after_all sim Outset (numbered_lines 1 bytes) ≡ place_after_all sim (place_of place) (numbered_lines number rest)
+  pub read : place_after_all sim AtStart (numbered_lines 1 bytes) ≡ place_after_all sim (place_of place) (numbered_lines number rest)
   pub good : IsPlace place
   pub counted : 1 ≤ number
   pub left : drop (number - 1) (lines_of bytes) ≡ lines_of rest
@@ -82,7 +82,7 @@ module _ (sim : Bool) (bytes rest line after : Text) (place : PlaceCode) (number
       → place_after_all sim (place_of place) (numbered_lines number rest) ≡ place_after_all sim next (numbered_lines (number + 1) after)
   one_more next skip e =
       ap (place_after_all sim (place_of place)) (numbered_line number rest line after false cut skip)
-      ∙ ap (λ r. elim r [ Ok x ↦ place_after_all sim x (numbered_lines (number + 1) after) | Err why ↦ refused number why ]) e
+      ∙ ap (λ r. elim r [ Ok x ↦ place_after_all sim x (numbered_lines (number + 1) after) | Err why ↦ refused_at number why ]) e
 
   pub reads : (next : PlaceCode) → is_skipped line ≡ false → place_after sim (place_of place) (number, line) ≡ Ok (place_of next) → IsPlace next → Stands sim bytes next (number + 1) after
   reads next skip e good = moved next (one_more (place_of next) skip e) good
@@ -96,24 +96,24 @@ not_long true n x y e small = absurd (omega (arith, ltb-true 16777216 n e))
 not_long false n x y e small = rw e refl
 
 abbrev finish : Text → Result Place Refused → Result Reading Refused
-finish bytes read = elim read [ Ok place ↦ ended bytes place | Err fault ↦ Err fault ]
+finish bytes read = elim read [ Ok place ↦ script_ended bytes place | Err fault ↦ Err fault ]
 
-pub whole : (sim : Bool) (bytes : Text) (read : Result Place Refused) → length bytes ≤ 16777216 → place_after_all sim Outset (numbered_lines 1 bytes) ≡ read → read_script bytes sim ≡ finish bytes read
+pub whole : (sim : Bool) (bytes : Text) (read : Result Place Refused) → length bytes ≤ 16777216 → place_after_all sim AtStart (numbered_lines 1 bytes) ≡ read → read_script bytes sim ≡ finish bytes read
 whole sim bytes read small e =
-    not_long (nat_lt 16777216 (length bytes)) (length bytes) (refused 0 Long) (finish bytes (place_after_all sim Outset (numbered_lines 1 bytes))) refl small ∙ ap (finish bytes) e
+    not_long (nat_lt 16777216 (length bytes)) (length bytes) (refused_at 0 Long) (finish bytes (place_after_all sim AtStart (numbered_lines 1 bytes))) refl small ∙ ap (finish bytes) e
 
 pub reaches : (sim : Bool) (bytes rest line after : Text) (place : PlaceCode) (number : ℕ) (script : Workload) → Stands sim bytes place number rest → lines_of rest ≡ line ∷ lines_of after → Lengths rest line after → 0 < length rest
     → is_skipped line ≡ false → place_after sim (place_of place) (number, line) ≡ Ok (Scheduled script number)
     → read_script bytes sim ≡ Ok (record { script = script; schedule = Some (record { offset = length bytes - length after; line = number + 1 }) })
 reaches sim bytes rest line after place number script s cut lengths some skip e =
-    let all : place_after_all sim Outset (numbered_lines 1 bytes) ≡ Ok (Scheduled script number) =
+    let all : place_after_all sim AtStart (numbered_lines 1 bytes) ≡ Ok (Scheduled script number) =
     s.read ∙ one_more sim bytes rest line after place number s cut lengths some (Scheduled script number) skip e ∙ scheduled sim script number (numbered_lines (number + 1) after) in
     let sum : min (length bytes) (cells (take (number + 1 - 1) (lines_of bytes))) + length after ≡ length bytes = offset_is sim bytes rest line after place number s cut lengths some in
     let same : number + 1 - 1 ≡ number = omega arith in
     let there : offset_after number bytes ≡ length bytes - length after = ap (λ k. min (length bytes) (cells (take k (lines_of bytes)))) (sym same) ∙ omega (arith, sum) in
     whole sim bytes (Ok (Scheduled script number)) s.small all ∙ ap (λ o. Ok (record { script = script; schedule = Some (record { offset = o; line = number + 1 }) })) there
 
-ends : (sim : Bool) (bytes rest : Text) (place : PlaceCode) (number : ℕ) → Stands sim bytes place number rest → length rest ≡ 0 → read_script bytes sim ≡ ended bytes (place_of place)
+ends : (sim : Bool) (bytes rest : Text) (place : PlaceCode) (number : ℕ) → Stands sim bytes place number rest → length rest ≡ 0 → read_script bytes sim ≡ script_ended bytes (place_of place)
 ends sim bytes [] place number s none = whole sim bytes (Ok (place_of place)) s.small s.read
 ends sim bytes (b ∷ rest) place number s none = absurd (omega (arith, none))
 
@@ -123,6 +123,6 @@ line_count sim bytes (b ∷ rest) place number s none = absurd (omega (arith, no
 
 -- no line is left
 pub finishes : (sim : Bool) (bytes rest : Text) (place : PlaceCode) (number : ℕ) (result : Result Reading ReadError) → Stands sim bytes place number rest → length rest ≡ 0
-    → ((b : Text) → number ≡ length (lines_of b) + 1 → Reads (λ reading. reading) result (ended b (place_of place))) → Reads (λ reading. reading) result (read_script bytes sim)
+    → ((b : Text) → number ≡ length (lines_of b) + 1 → Reads (λ reading. reading) result (script_ended b (place_of place))) → Reads (λ reading. reading) result (read_script bytes sim)
 finishes sim bytes rest place number result s none told =
     subst (Reads (λ reading. reading) result) (sym (ends sim bytes rest place number s none)) (told bytes (sym (line_count sim bytes rest place number s none)))

@@ -7,7 +7,7 @@ use Rattle.hy_base.specs.Script.{Workload}
 use Rattle.hy_base.specs.Spelling.{Text}
 use Rattle.hy_script.specs.Lines.{lines_of, words_of, is_skipped, numbered_lines}
 use Rattle.hy_script.specs.Grammar.{event_of}
-use Rattle.hy_script.specs.Reading.{refused, events_of}
+use Rattle.hy_script.specs.Reading.{refused_at, events_of}
 use Rattle.hy_script.specs.declared.why.Why.{Why}
 use Rattle.hy_script.specs.declared.refused.Refused.{Refused}
 use Rattle.hy_script.specs.declared.refused.EventLine.{EventLine}
@@ -44,14 +44,14 @@ front_more front number event (Err fault) = refl
 pub event_line : (script : Workload) (front : List EventLine) (number : ℕ) (line : Text) (rest : List (ℕ × Text)) (event : Event) → event_of script (words_of line) ≡ Ok event
     → with_front front (events_of script ((number, line) ∷ rest)) ≡ with_front (front ++ record { line = number; event = event } ∷ []) (events_of script rest)
 event_line script front number line rest event e =
-    ap (λ r. with_front front (elim r [ Err why ↦ refused number why | Ok x ↦ elim (events_of script rest) [ Err fault ↦ Err fault | Ok events ↦ Ok (record { line = number; event = x } ∷ events) ] ])) e
+    ap (λ r. with_front front (elim r [ Err why ↦ refused_at number why | Ok x ↦ elim (events_of script rest) [ Err fault ↦ Err fault | Ok events ↦ Ok (record { line = number; event = x } ∷ events) ] ])) e
     ∙ front_more front number event (events_of script rest)
 
--- a line that is refused
+-- a line that is refused_at
 pub refused_line : (script : Workload) (front : List EventLine) (number : ℕ) (line : Text) (rest : List (ℕ × Text)) (why : Why) → event_of script (words_of line) ≡ Err why
-    → with_front front (events_of script ((number, line) ∷ rest)) ≡ refused number why
+    → with_front front (events_of script ((number, line) ∷ rest)) ≡ refused_at number why
 refused_line script front number line rest why e =
-    ap (λ r. with_front front (elim r [ Err w ↦ refused number w | Ok x ↦ elim (events_of script rest) [ Err fault ↦ Err fault | Ok events ↦ Ok (record { line = number; event = x } ∷ events) ] ])) e
+    ap (λ r. with_front front (elim r [ Err w ↦ refused_at number w | Ok x ↦ elim (events_of script rest) [ Err fault ↦ Err fault | Ok events ↦ Ok (record { line = number; event = x } ∷ events) ] ])) e
 
 -- no line is left
 pub all_read : (script : Workload) (front : List EventLine) (first number : ℕ) (bytes rest : Text) → length rest ≡ 0

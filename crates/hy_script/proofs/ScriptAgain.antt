@@ -15,11 +15,11 @@ use Rattle.hy_base.specs.declared.workload.Program.{Program}
 use Rattle.hy_base.specs.Script.{Workload, IsClient, IsCommand, IsProgram, client_count}
 use Rattle.hy_base.specs.Shape.{IsGoodShape, IsWithin}
 use Rattle.hy_base.specs.Spelling.{Text}
-use Rattle.hy_script.specs.Grammar.{Place, Outset, Shaped, Listing, Programming, change_last, gains_program, last_program_count, with_program}
-use Rattle.hy_script.specs.Laws.{ClientFits, FitsFields, IsSpellable, ProgramFits, ReadsItsSpelling}
+use Rattle.hy_script.specs.Grammar.{Place, AtStart, Shaped, Listing, Programming, change_last, gains_program, last_program_count, with_program}
+use Rattle.hy_script.specs.Laws.{ClientFits, FitsFields, IsScriptSpellable, ProgramFits, ReadsItsSpelling}
 use Rattle.hy_script.specs.Lines.{lines_of, numbered_lines, words_of}
 use Rattle.hy_script.specs.Parts.{after_listing, after_program_line, leading}
-use Rattle.hy_script.specs.Reading.{place_after, place_after_all, refused}
+use Rattle.hy_script.specs.Reading.{place_after, place_after_all, refused_at}
 use Rattle.hy_script.specs.ScriptFields.{listing_line, program_line, servers_line, shape_line}
 use Rattle.hy_script.specs.Spelling.{client_lines, command_words, program_lines, script_lines, script_text, text_of_lines}
 use Rattle.hy_script.specs.declared.refused.Refused.{Refused}
@@ -58,7 +58,7 @@ then_walks sim place next last xs ys first second = record {
 }
 
 abbrev onto : Bool → ℕ → List (ℕ × Text) → Result Place Why → Result Place Refused
-onto sim number ps read = elim read [ Ok next ↦ place_after_all sim next ps | Err why ↦ refused number why ]
+onto sim number ps read = elim read [ Ok next ↦ place_after_all sim next ps | Err why ↦ refused_at number why ]
 
 pub one_line : (sim : Bool) (place last : Place) (words : List Text) → IsSpeech words → ((number : ℕ) (line : Text) → words_of line ≡ words → place_after sim place (number, line) ≡ Ok last) → Walks sim place (words ∷ []) last
 one_line sim place last words speech leads = record {
@@ -70,9 +70,9 @@ one_line sim place last words speech leads = record {
 
 -- what the lines of a place lead to, by their words
 
-shape_walks : (sim : Bool) (shape : Shape) → IsGoodShape shape → Walks sim Outset ((codes "shape" ∷ decimal shape.group ∷ decimal shape.window ∷ decimal shape.cap ∷ []) ∷ []) (Shaped shape)
+shape_walks : (sim : Bool) (shape : Shape) → IsGoodShape shape → Walks sim AtStart ((codes "shape" ∷ decimal shape.group ∷ decimal shape.window ∷ decimal shape.cap ∷ []) ∷ []) (Shaped shape)
 shape_walks sim shape good =
-    one_line sim Outset (Shaped shape) _
+    one_line sim AtStart (Shaped shape) _
     (record {
       visible = (refl, (visible_decimal shape.group (omega (arith, good.group.at_most)), (visible_decimal shape.window (omega (arith, good.window.at_most)), (visible_decimal shape.cap (omega (arith, good.cap.at_most)), tt))));
       says_some = refl;
@@ -205,10 +205,10 @@ clients_walk sim script front (c ∷ cs) fits lawful few counts =
     (subst (λ l. Walks sim (Listing (script_with script (front ++ c ∷ []))) (flat_map client_lines cs) (Listing (script_with script l))) all
     (clients_walk sim script (front ++ c ∷ []) cs fits.1 (All-tail (IsClient script.servers) c cs lawful) few (λ k. subst (λ l. client_count l k ≤ 16) (sym all) (counts k))))
 
-pub script_walks : (sim : Bool) (script : Workload) → IsSpellable script → Walks sim Outset (script_lines script) (Listing script)
+pub script_walks : (sim : Bool) (script : Workload) → IsScriptSpellable script → Walks sim AtStart (script_lines script) (Listing script)
 script_walks sim script s =
     let shape = script.shape in
-    then_walks sim Outset (Shaped shape) (Listing script) ((codes "shape" ∷ decimal shape.group ∷ decimal shape.window ∷ decimal shape.cap ∷ []) ∷ [])
+    then_walks sim AtStart (Shaped shape) (Listing script) ((codes "shape" ∷ decimal shape.group ∷ decimal shape.window ∷ decimal shape.cap ∷ []) ∷ [])
     ((codes "servers" ∷ decimal script.servers ∷ []) ∷ flat_map client_lines script.clients)
     (shape_walks sim shape s.lawful.shape)
     (then_walks sim (Shaped shape) (served shape script.servers) (Listing script) ((codes "servers" ∷ decimal script.servers ∷ []) ∷ []) (flat_map client_lines script.clients)
@@ -218,6 +218,6 @@ script_walks sim script s =
 pub reads_scripts : ReadsItsSpelling
 reads_scripts script sim s short =
     let text = script_text script in
-    let walked : place_after_all sim Outset (numbered_lines 1 text) ≡ Ok (Listing script) =
-    ap (λ t. place_after_all sim Outset (numbered_lines 1 t)) (sym (append-nil text)) ∙ (script_walks sim script s).walk 1 [] in
+    let walked : place_after_all sim AtStart (numbered_lines 1 text) ≡ Ok (Listing script) =
+    ap (λ t. place_after_all sim AtStart (numbered_lines 1 t)) (sym (append-nil text)) ∙ (script_walks sim script s).walk 1 [] in
     whole sim text (Ok (Listing script)) short walked

@@ -8,12 +8,12 @@ use Rattle.hy_base.specs.declared.workload.Client.{Client}
 use Rattle.hy_base.specs.Script.{Workload, IsProgram, IsScript, client_count}
 use Rattle.hy_base.specs.Shape.{IsGoodShape, IsWithin}
 use Rattle.hy_base.specs.Spelling.{Text}
-use Rattle.hy_script.specs.Grammar.{Place, Outset, Shaped, Listing, Programming, Scheduled, change_last, gains_program, last_program_count, with_client, with_program}
-use Rattle.hy_script.specs.Laws.{ClientFits, FitsFields, IsSaidBy, IsSpellable, ProgramFits, SpellsWhatItReads, words_by_line}
+use Rattle.hy_script.specs.Grammar.{Place, AtStart, Shaped, Listing, Programming, Scheduled, change_last, gains_program, last_program_count, with_client, with_program}
+use Rattle.hy_script.specs.Laws.{ClientFits, FitsFields, IsSaidBy, IsScriptSpellable, ProgramFits, SpellsWhatItReads, words_by_line}
 use Rattle.hy_script.specs.Lines.{numbered_lines, words_of}
 use Rattle.hy_script.specs.Outcome.{Reads}
 use Rattle.hy_script.specs.Parts.{after_listing, after_program_line, leading}
-use Rattle.hy_script.specs.Reading.{ended, place_after, place_after_all, read_script, refused, start_after}
+use Rattle.hy_script.specs.Reading.{script_ended, place_after, place_after_all, read_script, refused_at, start_after}
 use Rattle.hy_script.specs.ScriptFields.{listing_line, program_line, servers_line, shape_line}
 use Rattle.hy_script.specs.Spelling.{client_lines, command_words, program_lines, script_lines}
 use Rattle.hy_script.specs.declared.refused.ReadError.{ReadError}
@@ -48,38 +48,38 @@ all_push P (y ∷ ys) x all one = (all.0, all_push P ys x all.1 one)
 -- what was said so far, and what is known of it
 
 abbrev said : Place → List (List Text)
-said Outset = []
+said AtStart = []
 said (Shaped shape) = (codes "shape" ∷ decimal shape.group ∷ decimal shape.window ∷ decimal shape.cap ∷ []) ∷ []
 said (Listing script) = script_lines script
 said (Programming script commands) = script_lines script ++ (codes "begin" ∷ []) ∷ map command_words commands
 said (Scheduled script start) = script_lines script
 
 record IsOpen (script : Workload) (commands : List Command) : Type 0 where
-  pub script_is : IsSpellable script
+  pub script_is : IsScriptSpellable script
   pub some : 0 < length script.clients
   pub room : last_program_count script.clients < 10000
   pub lawful : IsProgram (record { commands = commands })
   pub fits : AllByRecursion FitsFields commands
 
 abbrev IsReached : Place → Type 0
-IsReached Outset = ⊤
+IsReached AtStart = ⊤
 IsReached (Shaped shape) = IsGoodShape shape
-IsReached (Listing script) = IsSpellable script
+IsReached (Listing script) = IsScriptSpellable script
 IsReached (Programming script commands) = IsOpen script commands
-IsReached (Scheduled script start) = IsSpellable script
+IsReached (Scheduled script start) = IsScriptSpellable script
 
 -- the place after a line, which isn't the schedule's
 abbrev Adds : List (List Text) → Text → Place → Type 0
 Adds before line place = IsReached place × (said place ≡ before ++ words_of line ∷ [])
 
 record IsScheduleLine (before : List (List Text)) (p : ℕ × Text) (script : Workload) (start : ℕ) : Type 0 where
-  pub script_is : IsSpellable script
+  pub script_is : IsScriptSpellable script
   pub whole : script_lines script ≡ before
   pub number : start ≡ p.0
   pub word : words_of p.1 ≡ codes "schedule" ∷ []
 
 abbrev Follows : List (List Text) → ℕ × Text → Place → Type 0
-Follows before p Outset = Adds before p.1 Outset
+Follows before p AtStart = Adds before p.1 AtStart
 Follows before p (Shaped shape) = Adds before p.1 (Shaped shape)
 Follows before p (Listing script) = Adds before p.1 (Listing script)
 Follows before p (Programming script commands) = Adds before p.1 (Programming script commands)
@@ -90,7 +90,7 @@ leading_was place (Ok a) next e = (a, refl, cc (e))
 leading_was place (Err why) next e = cc
 
 module _ (sim : Bool) (p : ℕ × Text) (next : Place) where
-  from_outset : place_after sim Outset p ≡ Ok next → Follows [] p next
+  from_outset : place_after sim AtStart p ≡ Ok next → Follows [] p next
   from_outset e =
       let step = leading_was Shaped (shape_line (words_of p.1)) next (shape_leads sim p.0 (words_of p.1) ∙ e) in
       let was = shape_was (words_of p.1) step.0 step.1 in
@@ -106,7 +106,7 @@ module _ (sim : Bool) (p : ℕ × Text) (next : Place) where
 
 -- between programs
 
-spellable_client : (script : Workload) (server : ℕ) → IsSpellable script → IsWithin 1 script.servers server → client_count script.clients server < 16 → IsSpellable (with_client server script)
+spellable_client : (script : Workload) (server : ℕ) → IsScriptSpellable script → IsWithin 1 script.servers server → client_count script.clients server < 16 → IsScriptSpellable (with_client server script)
 spellable_client script server s within room = record {
   lawful = client_kept script.shape script.servers server script.clients s.lawful within room;
   clients = all_push ClientFits script.clients (record { server = server; programs = [] }) s.clients tt;
@@ -117,7 +117,7 @@ client_said script server words are =
     ap (λ l. script_lines (record { shape = script.shape; servers = script.servers; clients = [] }) ++ l) (flat_map_push client_lines script.clients (record { server = server; programs = [] }))
     ∙ ap (λ w. script_lines script ++ w ∷ []) (sym are)
 
-listed : (script : Workload) (p : ℕ × Text) (read : ListingLine) → IsSpellable script → IsListingLine script (words_of p.1) read → Follows (script_lines script) p (after_listing script p.0 read)
+listed : (script : Workload) (p : ℕ × Text) (read : ListingLine) → IsScriptSpellable script → IsListingLine script (words_of p.1) read → Follows (script_lines script) p (after_listing script p.0 read)
 listed script p (ClientLine server) s was = (spellable_client script server s was.1 was.2, client_said script server (words_of p.1) was.0)
 listed script p Begin s was = (
   record { script_is = s; some = was.1; room = was.2; lawful = record { count = omega arith; commands = λ k d below. absurd (omega (arith, below)) }; fits = tt },
@@ -125,7 +125,7 @@ listed script p Begin s was = (
 )
 listed script p Schedule s was = record { script_is = s; whole = refl; number = refl; word = was }
 
-from_listing : (sim : Bool) (p : ℕ × Text) (next : Place) (script : Workload) → IsSpellable script → place_after sim (Listing script) p ≡ Ok next → Follows (said (Listing script)) p next
+from_listing : (sim : Bool) (p : ℕ × Text) (next : Place) (script : Workload) → IsScriptSpellable script → place_after sim (Listing script) p ≡ Ok next → Follows (said (Listing script)) p next
 from_listing sim p next script s e =
     let step = leading_was (after_listing script p.0) (listing_line sim script (words_of p.1)) next (listing_leads sim p.0 script (words_of p.1) ∙ e) in
     subst (Follows (script_lines script) p) step.2 (listed script p step.0 s (listing_was sim script (words_of p.1) step.0 step.1))
@@ -164,7 +164,7 @@ program_lawful script commands lawful s =
     subst (λ cs. IsScript (script_with script cs)) (sym (ap (change_last (gains_program commands)) last.2 ∙ change_last_is (gains_program commands) last.0 last.1))
     (program_kept script.shape script.servers last.0 last.1 commands (subst (λ cs. IsScript (script_with script cs)) last.2 lawful) room s.lawful)
 
-spellable_program : (script : Workload) (commands : List Command) → IsOpen script commands → IsSpellable (with_program commands script)
+spellable_program : (script : Workload) (commands : List Command) → IsOpen script commands → IsScriptSpellable (with_program commands script)
 spellable_program script commands s = record {
   lawful = program_lawful script commands s.script_is.lawful s;
   clients = changed_fits commands script.clients s.fits s.script_is.clients;
@@ -207,14 +207,14 @@ from_programming sim p next script commands s e =
 -- all lines
 
 abbrev IsUnscheduled : Place → Type 0
-IsUnscheduled Outset = ⊤
+IsUnscheduled AtStart = ⊤
 IsUnscheduled (Shaped shape) = ⊤
 IsUnscheduled (Listing script) = ⊤
 IsUnscheduled (Programming script commands) = ⊤
 IsUnscheduled (Scheduled script start) = ⊥
 
 step_was : (sim : Bool) (p : ℕ × Text) (place next : Place) → IsUnscheduled place → IsReached place → place_after sim place p ≡ Ok next → Follows (said place) p next
-step_was sim p Outset next going reached e = from_outset sim p next e
+step_was sim p AtStart next going reached e = from_outset sim p next e
 step_was sim p (Shaped shape) next going reached e = from_shaped sim p next shape reached e
 step_was sim p (Listing script) next going reached e = from_listing sim p next script reached e
 step_was sim p (Programming script commands) next going reached e = from_programming sim p next script commands reached e
@@ -229,7 +229,7 @@ record HasSchedule (before : List (List Text)) (ps : List (ℕ × Text)) (script
   pub word : words_of line ≡ codes "schedule" ∷ []
 
 abbrev Ends : List (List Text) → List (ℕ × Text) → Place → Type 0
-Ends before ps Outset = said Outset ≡ before ++ words_by_line ps
+Ends before ps AtStart = said AtStart ≡ before ++ words_by_line ps
 Ends before ps (Shaped shape) = said (Shaped shape) ≡ before ++ words_by_line ps
 Ends before ps (Listing script) = said (Listing script) ≡ before ++ words_by_line ps
 Ends before ps (Programming script commands) = said (Programming script commands) ≡ before ++ words_by_line ps
@@ -242,7 +242,7 @@ more_words : (before so_far : List (List Text)) (p : ℕ × Text) (ps : List (�
 more_words before so_far p ps e = ap (λ l. l ++ words_by_line ps) e ∙ append_assoc before (words_of p.1 ∷ []) (words_by_line ps)
 
 ends_more : (before so_far : List (List Text)) (p : ℕ × Text) (ps : List (ℕ × Text)) (last : Place) → so_far ≡ before ++ words_of p.1 ∷ [] → Ends so_far ps last → Ends before (p ∷ ps) last
-ends_more before so_far p ps Outset e ends = ends ∙ more_words before so_far p ps e
+ends_more before so_far p ps AtStart e ends = ends ∙ more_words before so_far p ps e
 ends_more before so_far p ps (Shaped shape) e ends = ends ∙ more_words before so_far p ps e
 ends_more before so_far p ps (Listing script) e ends = ends ∙ more_words before so_far p ps e
 ends_more before so_far p ps (Programming script commands) e ends = ends ∙ more_words before so_far p ps e
@@ -256,7 +256,7 @@ ends_more before so_far p ps (Scheduled script start) e ends = record {
 }
 
 ends_at : (place : Place) → IsUnscheduled place → Ends (said place) [] place
-ends_at Outset going = refl
+ends_at AtStart going = refl
 ends_at (Shaped shape) going = refl
 ends_at (Listing script) going = sym (append-nil (script_lines script))
 ends_at (Programming script commands) going = sym (append-nil (said (Programming script commands)))
@@ -274,7 +274,7 @@ abbrev Rest : Bool → List (ℕ × Text) → Place → Type 0
 Rest sim ps last = (place : Place) → IsUnscheduled place → IsReached place → place_after_all sim place ps ≡ Ok last → Concludes (said place) ps last
 
 onward : (sim : Bool) (before : List (List Text)) (p : ℕ × Text) (ps : List (ℕ × Text)) (next last : Place) → Rest sim ps last → Follows before p next → place_after_all sim next ps ≡ Ok last → Concludes before (p ∷ ps) last
-onward sim before p ps Outset last rest f e = let c = rest Outset tt f.0 e in (c.0, ends_more before (said Outset) p ps last f.1 c.1)
+onward sim before p ps AtStart last rest f e = let c = rest AtStart tt f.0 e in (c.0, ends_more before (said AtStart) p ps last f.1 c.1)
 onward sim before p ps (Shaped shape) last rest f e = let c = rest (Shaped shape) tt f.0 e in (c.0, ends_more before (said (Shaped shape)) p ps last f.1 c.1)
 onward sim before p ps (Listing script) last rest f e = let c = rest (Listing script) tt f.0 e in (c.0, ends_more before (said (Listing script)) p ps last f.1 c.1)
 onward sim before p ps (Programming script commands) last rest f e =
@@ -284,7 +284,7 @@ onward sim before p ps (Scheduled script start) last rest f e =
     scheduled_at before p ps script start last f same
 
 abbrev then_all : Bool → ℕ → List (ℕ × Text) → Result Place Why → Result Place Refused
-then_all sim number ps read = elim read [ Ok next ↦ place_after_all sim next ps | Err why ↦ refused number why ]
+then_all sim number ps read = elim read [ Ok next ↦ place_after_all sim next ps | Err why ↦ refused_at number why ]
 
 then_was : (sim : Bool) (number : ℕ) (ps : List (ℕ × Text)) (read : Result Place Why) (last : Place) → then_all sim number ps read ≡ Ok last → (next : Place) × (read ≡ Ok next) × (place_after_all sim next ps ≡ Ok last)
 then_was sim number ps (Ok next) last e = (next, refl, e)
@@ -303,17 +303,17 @@ not_long true x y b e = cc
 not_long false x y b e = e
 
 abbrev finished : Text → Result Place Refused → Result Reading Refused
-finished bytes read = elim read [ Ok place ↦ ended bytes place | Err fault ↦ Err fault ]
+finished bytes read = elim read [ Ok place ↦ script_ended bytes place | Err fault ↦ Err fault ]
 
-finished_was : (bytes : Text) (read : Result Place Refused) (reading : Reading) → finished bytes read ≡ Ok reading → (place : Place) × (read ≡ Ok place) × (ended bytes place ≡ Ok reading)
+finished_was : (bytes : Text) (read : Result Place Refused) (reading : Reading) → finished bytes read ≡ Ok reading → (place : Place) × (read ≡ Ok place) × (script_ended bytes place ≡ Ok reading)
 finished_was bytes (Ok place) reading e = (place, refl, e)
 finished_was bytes (Err fault) reading e = cc
 
 abbrev IsSpelled : List (ℕ × Text) → Reading → Type 0
-IsSpelled lines reading = IsSpellable reading.script × IsSaidBy reading.schedule reading.script lines
+IsSpelled lines reading = IsScriptSpellable reading.script × IsSaidBy reading.schedule reading.script lines
 
-ended_was : (bytes : Text) (lines : List (ℕ × Text)) (last : Place) (reading : Reading) → Concludes [] lines last → ended bytes last ≡ Ok reading → IsSpelled lines reading
-ended_was bytes lines Outset reading c e = cc (e)
+ended_was : (bytes : Text) (lines : List (ℕ × Text)) (last : Place) (reading : Reading) → Concludes [] lines last → script_ended bytes last ≡ Ok reading → IsSpelled lines reading
+ended_was bytes lines AtStart reading c e = cc (e)
 ended_was bytes lines (Shaped shape) reading c e = cc (e)
 ended_was bytes lines (Programming script commands) reading c e = cc (e)
 ended_was bytes lines (Listing script) reading c e =
@@ -325,10 +325,10 @@ ended_was bytes lines (Scheduled script start) reading c e =
 
 pub spells_scripts : SpellsWhatItReads
 spells_scripts bytes sim reading e =
-    let read = not_long (nat_lt 16777216 (length bytes)) (finished bytes (place_after_all sim Outset (numbered_lines 1 bytes))) _ reading e in
-    let was = finished_was bytes (place_after_all sim Outset (numbered_lines 1 bytes)) reading read in
-    ended_was bytes (numbered_lines 1 bytes) was.0 reading (all_was sim (numbered_lines 1 bytes) was.0 Outset tt tt was.1) was.2
+    let read = not_long (nat_lt 16777216 (length bytes)) (finished bytes (place_after_all sim AtStart (numbered_lines 1 bytes))) _ reading e in
+    let was = finished_was bytes (place_after_all sim AtStart (numbered_lines 1 bytes)) reading read in
+    ended_was bytes (numbered_lines 1 bytes) was.0 reading (all_was sim (numbered_lines 1 bytes) was.0 AtStart tt tt was.1) was.2
 
-pub spellable : (sim : Bool) (bytes : Text) (result : Result Reading ReadError) → Reads (λ reading. reading) result (read_script bytes sim) → IfOk result (λ reading. IsSpellable reading.script)
+pub spellable : (sim : Bool) (bytes : Text) (result : Result Reading ReadError) → Reads (λ reading. reading) result (read_script bytes sim) → IfOk result (λ reading. IsScriptSpellable reading.script)
 spellable sim bytes (Ok reading) told = (spells_scripts bytes sim reading told).0
 spellable sim bytes (Err e) told = tt

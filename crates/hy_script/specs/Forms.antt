@@ -13,8 +13,8 @@ pub record Meaning (T : Type 0) : Type 0 where
   pub made : T
 
 -- the cause of the first test that fails, or what was made
-abbrev pub judged : {T : Type 0} → Meaning T → Result T Why
-judged meaning = option_map_or (λ t. Err t.1) (find (λ t. not t.0) meaning.tests) (Ok meaning.made)
+abbrev pub judged_words : {T : Type 0} → Meaning T → Result T Why
+judged_words meaning = option_map_or (λ t. Err t.1) (find (λ t. not t.0) meaning.tests) (Ok meaning.made)
 
 -- A form of lines: the first word, the fields after it, and what they mean.
 pub data LineForm (T : Type 0) : Type 0 where
@@ -68,7 +68,7 @@ read_fields named fields =
     else
     elim (form_with (length fields) named) [
       | None ↦ Err Form
-      | Some form ↦ option_map_or (λ meaning. judged meaning) (meaning_of form fields) (Err Number)
+      | Some form ↦ option_map_or (λ meaning. judged_words meaning) (meaning_of form fields) (Err Number)
     ]
 
 -- What a line of words makes where these forms may stand, or the first cause against it: no form has its first word, or the fields are refused.

@@ -17,7 +17,7 @@ use Rattle.hy_script.specs.declared.why.Why.TheVariants.{Word, Value, Range, Ord
 -- Where a reading stands: what was read, by what may come next.
 pub data Place : Type 0 where
   -- nothing
-  Outset : Place
+  AtStart : Place
   -- the shape
   Shaped : Shape → Place
   -- the servers too, and any number of whole clients and programs
@@ -104,7 +104,7 @@ command_forms script commands =
 
 -- The lines that may stand at a place, this being the line with the number that is given. Where there is a simulation a schedule may follow the clients.
 abbrev pub forms_at : Bool → Place → ℕ → List (LineForm Place)
-forms_at sim Outset number = shape_form ∷ []
+forms_at sim AtStart number = shape_form ∷ []
 forms_at sim (Shaped shape) number = servers_form shape ∷ []
 forms_at sim (Listing script) number =
     client_form script
@@ -113,8 +113,8 @@ forms_at sim (Listing script) number =
 forms_at sim (Programming script commands) number = command_forms script commands ++ end_form script commands ∷ []
 forms_at sim (Scheduled script start) number = []
 
-abbrev pub client_event : Workload → Event → ℕ → Meaning Event
-client_event script event client = makes_if ((is_within 1 (length script.clients) client, Range) ∷ []) event
+abbrev pub event_of_client : Workload → Event → ℕ → Meaning Event
+event_of_client script event client = makes_if ((is_within 1 (length script.clients) client, Range) ∷ []) event
 
 abbrev pub publish : Workload → ℕ → ℕ → Meaning Event
 publish script server upto = makes_if ((is_within 1 script.servers server && nat_le upto 4294967295, Range) ∷ []) (Publish server upto)
@@ -125,10 +125,10 @@ stop call pattern = makes_if ((is_within 1 4 call && nat_le pattern 2, Range) �
 -- b C, a C, e C, f C, p S, r S Q, t K M: client C of the script, server S of it, position Q, a stop in call K with pattern M
 abbrev pub event_forms : Workload → List (LineForm Event)
 event_forms script =
-    OneNumber "b" (λ client. client_event script (Begin client) client)
-    ∷ OneNumber "a" (λ client. client_event script (Append client) client)
-    ∷ OneNumber "e" (λ client. client_event script (End client) client)
-    ∷ OneNumber "f" (λ client. client_event script (Refuse client) client)
+    OneNumber "b" (λ client. event_of_client script (Begin client) client)
+    ∷ OneNumber "a" (λ client. event_of_client script (Append client) client)
+    ∷ OneNumber "e" (λ client. event_of_client script (End client) client)
+    ∷ OneNumber "f" (λ client. event_of_client script (Refuse client) client)
     ∷ OneNumber "p" (λ server. makes_if ((is_within 1 script.servers server, Range) ∷ []) (Pad server))
     ∷ TwoNumbers "r" (publish script)
     ∷ TwoNumbers "t" stop

@@ -32,7 +32,7 @@ abbrev pub ClientFits : Client → Type 0
 ClientFits c = AllByRecursion ProgramFits c.programs
 
 -- a script that can be written
-pub record IsSpellable (script : Workload) : Type 0 where
+pub record IsScriptSpellable (script : Workload) : Type 0 where
   pub lawful : IsScript script
   pub clients : AllByRecursion ClientFits script.clients
 
@@ -48,7 +48,7 @@ IsEventSpellable script (Stop call pattern) = IsWithin 1 4 call × (pattern ≤ 
 
 -- What a script spells is read as that script.
 abbrev pub ReadsItsSpelling : Type 0
-ReadsItsSpelling = (script : Workload) (sim : Bool) → IsSpellable script → length (script_text script) ≤ 16777216
+ReadsItsSpelling = (script : Workload) (sim : Bool) → IsScriptSpellable script → length (script_text script) ≤ 16777216
     → read_script (script_text script) sim ≡ Ok (record { script = script; schedule = None })
 
 -- numbered events, the first of them on this line
@@ -57,7 +57,7 @@ event_lines first events = map (λ p. record { line = p.0; event = p.1 }) (enume
 
 -- What a script and its schedule spell is read as that script, and then as that schedule.
 abbrev pub ReadsItsInput : Type 0
-ReadsItsInput = (script : Workload) (events : List Event) → IsSpellable script → AllByRecursion (IsEventSpellable script) events → length (input_text script events) ≤ 16777216
+ReadsItsInput = (script : Workload) (events : List Event) → IsScriptSpellable script → AllByRecursion (IsEventSpellable script) events → length (input_text script events) ≤ 16777216
     → (start : ScheduleStart) × (read_script (input_text script events) true ≡ Ok (record { script = script; schedule = Some start }))
     × (drop start.offset (input_text script events) ≡ schedule_text events)
     × (read_schedule (schedule_text events) start.line script ≡ Ok (event_lines start.line events))
@@ -75,7 +75,7 @@ IsSaidBy (Some start) script lines = (front : List (ℕ × Text)) × (number : �
 -- A script that was read is spelled by the lines that say something, word for word.
 abbrev pub SpellsWhatItReads : Type 0
 SpellsWhatItReads = (bytes : Text) (sim : Bool) (reading : Reading) → read_script bytes sim ≡ Ok reading
-    → IsSpellable reading.script × IsSaidBy reading.schedule reading.script (numbered_lines 1 bytes)
+    → IsScriptSpellable reading.script × IsSaidBy reading.schedule reading.script (numbered_lines 1 bytes)
 
 -- Events that were read are spelled by the lines that say something, word for word and on these lines.
 abbrev pub SpellsTheEventsItReads : Type 0

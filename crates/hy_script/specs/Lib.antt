@@ -6,6 +6,7 @@ pub mod Grammar
 pub mod ScriptFields
 pub mod Parts
 pub mod Reading
+pub mod Input
 pub mod Outcome
 pub mod Spelling
 pub mod Laws

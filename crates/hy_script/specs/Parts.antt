@@ -8,7 +8,7 @@ use Rattle.hy_script.specs.declared.reader.Place.{Place as PlaceCode}
 use Rattle.hy_script.specs.declared.reader.Place.TheVariants.{Start as StartCode, Shaped as ShapedCode, Listing as ListingCode, Programming as ProgrammingCode}
 use Rattle.hy_script.specs.declared.reader.Step.{Step}
 use Rattle.hy_script.specs.declared.reader.Step.TheVariants.{To, Reaches}
-use Rattle.hy_script.specs.Grammar.{Place, Outset, Shaped, Listing, Programming, Scheduled, with_client, with_program, last_program_count}
+use Rattle.hy_script.specs.Grammar.{Place, AtStart, Shaped, Listing, Programming, Scheduled, with_client, with_program, last_program_count}
 use Rattle.hy_script.specs.declared.why.Why.{Why}
 use Rattle.hy_script.specs.declared.script.LineError.{LineError}
 use Rattle.hy_script.specs.declared.script.LineError.TheVariants.{Unfit, Memory}
@@ -42,7 +42,7 @@ after_program_line script commands End = Listing (with_program commands script)
 
 -- the place that a program's code has reached, without a schedule
 abbrev pub place_of : PlaceCode → Place
-place_of StartCode = Outset
+place_of StartCode = AtStart
 place_of (ShapedCode shape) = Shaped shape
 place_of (ListingCode script) = Listing script
 place_of (ProgrammingCode script commands) = Programming script commands
@@ -63,12 +63,12 @@ IsStep (To place) = IsPlace place
 IsStep (Reaches script) = ⊤
 
 -- what a line between programs tells
-abbrev pub IsListed : ℕ → List ScriptClient → ListingLine → Type 0
-IsListed servers clients (Client server) = IsWithin 1 servers server × (client_count clients server < 16)
-IsListed servers clients Begin = (0 < length clients) × (last_program_count clients < 10000)
-IsListed servers clients Schedule = ⊤
+abbrev pub IsClientListed : ℕ → List ScriptClient → ListingLine → Type 0
+IsClientListed servers clients (Client server) = IsWithin 1 servers server × (client_count clients server < 16)
+IsClientListed servers clients Begin = (0 < length clients) × (last_program_count clients < 10000)
+IsClientListed servers clients Schedule = ⊤
 
 -- and a line of a program that has so many commands
-abbrev pub IsNext : ℕ → ProgramLine → Type 0
-IsNext count (Next command) = IsCommand command × (count < 64)
-IsNext count End = ⊤
+abbrev pub IsNextLine : ℕ → ProgramLine → Type 0
+IsNextLine count (Next command) = IsCommand command × (count < 64)
+IsNextLine count End = ⊤

@@ -84,6 +84,6 @@ abbrev pub FailsTelling : LineError → Result ProgramLine Why → Type 0
 FailsTelling (Unfit why) read = read ≡ Err why
 FailsTelling Memory read = ⊤
 
-abbrev pub Tells : Result ProgramLine LineError → Result ProgramLine Why → Type 0
-Tells (Ok line) read = read ≡ Ok line
-Tells (Err e) read = FailsTelling e read
+abbrev pub TellsField : Result ProgramLine LineError → Result ProgramLine Why → Type 0
+TellsField (Ok line) read = read ≡ Ok line
+TellsField (Err e) read = FailsTelling e read

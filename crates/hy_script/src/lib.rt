@@ -9,9 +9,9 @@
 mod cut;
 mod draft;
 mod event;
+mod input;
 mod laws;
 mod lines;
-mod number;
 mod reader;
 mod refused;
 mod schedule;
@@ -20,6 +20,7 @@ mod source;
 mod why;
 mod words;
 
+pub use input::{Input, read_input};
 pub use laws::{
     reads_its_input, reads_its_spelling, spells_the_events_it_reads, spells_what_it_reads,
 };

@@ -4,10 +4,10 @@ ghost use Rattle.hy_base.specs.Script.{Workload, IsCommand, client_count};
 ghost use Rattle.hy_base.specs.Shape.{IsGoodShape, IsWithin};
 ghost use Rattle.hy_base.specs.Value.{is_value};
 ghost use Rattle.hy_script.specs.Fields.{HasFields, and_then, one_number, two_numbers, three_numbers, no_fields};
-ghost use Rattle.hy_script.specs.Forms.{judged, read_line};
-ghost use Rattle.hy_script.specs.Grammar.{Outset, Shaped, Listing, Programming, forms_at, last_program_count};
-ghost use Rattle.hy_script.specs.Parts.{leading, LeadsTo, after_listing, after_program_line, IsListed, IsNext};
-ghost use Rattle.hy_script.specs.ScriptFields.{shape_fields, scan_fields, ValueOf, shape_line, servers_line, number_within, client_fields, begin_fields, listing_line, one_more, put_fields, program_line, Tells};
+ghost use Rattle.hy_script.specs.Forms.{judged_words, read_line};
+ghost use Rattle.hy_script.specs.Grammar.{AtStart, Shaped, Listing, Programming, forms_at, last_program_count};
+ghost use Rattle.hy_script.specs.Parts.{leading, LeadsTo, after_listing, after_program_line, IsClientListed, IsNextLine};
+ghost use Rattle.hy_script.specs.ScriptFields.{shape_fields, scan_fields, ValueOf, shape_line, servers_line, number_within, client_fields, begin_fields, listing_line, one_more, put_fields, program_line, TellsField};
 ghost use Rattle.hy_script.specs.Lines.{words_of};
 ghost use Rattle.hy_base.specs.declared.workload.Command.TheVariants.{Get, Del, Add};
 ghost use Rattle.hy_script.specs.declared.script.ListingLine.TheVariants.{Begin, Schedule};
@@ -131,7 +131,7 @@ fn count_of(clients: &[Client], server: u8) -> usize
 
 fn client_of(servers: u8, clients: &[Client], fields: Fields<'_>) -> Result<ListingLine, Why>
     ensures exact { (words : List (List ℕ)) (shape : Shape) → HasFields fields.entry words → result ≡ client_fields (record { shape = shape; servers = servers; clients = clients.now }) words }
-    ensures fits { IfOk result (IsListed servers clients.now) }
+    ensures fits { IfOk result (IsClientListed servers clients.now) }
 {
     let server = within(1, servers, fields)?;
     if count_of(clients, server) < 16 {
@@ -200,7 +200,7 @@ pub fn read_listing(
     line: &[u8],
 ) -> Result<ListingLine, Why>
     ensures exact { (shape : Shape) → result ≡ listing_line sim (record { shape = shape; servers = servers; clients = clients.now }) (words_of line.now) }
-    ensures fits { IfOk result (IsListed servers clients.now) }
+    ensures fits { IfOk result (IsClientListed servers clients.now) }
 {
     let (word, fields) = cut_fields(line);
     if word == b"client".as_slice() {
@@ -222,7 +222,7 @@ pub fn read_listing(
 fn one_more(count: usize, command: Command) -> Result<ProgramLine, Why>
     requires lawful { IsCommand command }
     ensures exact { result ≡ one_more count command }
-    ensures fits { IfOk result (IsNext count) }
+    ensures fits { IfOk result (IsNextLine count) }
 {
     if count < 64 {
         Ok(ProgramLine::Next(command))
@@ -232,24 +232,24 @@ fn one_more(count: usize, command: Command) -> Result<ProgramLine, Why>
 }
 
 fn get_of(count: usize, fields: Fields<'_>) -> Result<ProgramLine, LineError>
-    ensures exact { (words : List (List ℕ)) → HasFields fields.entry words → Tells result (and_then (one_number words) (λ key. one_more count (Get key))) }
-    ensures fits { IfOk result (IsNext count) }
+    ensures exact { (words : List (List ℕ)) → HasFields fields.entry words → TellsField result (and_then (one_number words) (λ key. one_more count (Get key))) }
+    ensures fits { IfOk result (IsNextLine count) }
 {
     let line = one_more(count, Command::Get(one_number(fields)?))?;
     Ok(line)
 }
 
 fn del_of(count: usize, fields: Fields<'_>) -> Result<ProgramLine, LineError>
-    ensures exact { (words : List (List ℕ)) → HasFields fields.entry words → Tells result (and_then (one_number words) (λ key. one_more count (Del key))) }
-    ensures fits { IfOk result (IsNext count) }
+    ensures exact { (words : List (List ℕ)) → HasFields fields.entry words → TellsField result (and_then (one_number words) (λ key. one_more count (Del key))) }
+    ensures fits { IfOk result (IsNextLine count) }
 {
     let line = one_more(count, Command::Del(one_number(fields)?))?;
     Ok(line)
 }
 
 fn add_of(count: usize, fields: Fields<'_>) -> Result<ProgramLine, LineError>
-    ensures exact { (words : List (List ℕ)) → HasFields fields.entry words → Tells result (and_then (two_numbers words) (λ p. one_more count (Add p.0 p.1))) }
-    ensures fits { IfOk result (IsNext count) }
+    ensures exact { (words : List (List ℕ)) → HasFields fields.entry words → TellsField result (and_then (two_numbers words) (λ p. one_more count (Add p.0 p.1))) }
+    ensures fits { IfOk result (IsNextLine count) }
 {
     let (key, n) = two_numbers(fields)?;
     let line = one_more(count, Command::Add(key, n))?;
@@ -257,15 +257,15 @@ fn add_of(count: usize, fields: Fields<'_>) -> Result<ProgramLine, LineError>
 }
 
 fn counted_scan(count: usize, fields: Fields<'_>) -> Result<ProgramLine, LineError>
-    ensures exact { (words : List (List ℕ)) → HasFields fields.entry words → Tells result (and_then (scan_fields words) (one_more count)) }
-    ensures fits { IfOk result (IsNext count) }
+    ensures exact { (words : List (List ℕ)) → HasFields fields.entry words → TellsField result (and_then (scan_fields words) (one_more count)) }
+    ensures fits { IfOk result (IsNextLine count) }
 {
     let line = one_more(count, scan_of(fields)?)?;
     Ok(line)
 }
 
 fn end_of(fields: Fields<'_>) -> Result<ProgramLine, LineError>
-    ensures exact { (words : List (List ℕ)) → HasFields fields.entry words → Tells result (and_then (no_fields words) (λ u. Ok End)) }
+    ensures exact { (words : List (List ℕ)) → HasFields fields.entry words → TellsField result (and_then (no_fields words) (λ u. Ok End)) }
     ensures fits { IfOk result (λ l. l ≡ End) }
 {
     no_fields(fields)?;
@@ -273,8 +273,8 @@ fn end_of(fields: Fields<'_>) -> Result<ProgramLine, LineError>
 }
 
 fn put_of(alloc: Global, count: usize, fields: Fields<'_>) -> Result<ProgramLine, LineError>
-    ensures exact { (words : List (List ℕ)) → HasFields fields.entry words → Tells result (put_fields count words) }
-    ensures fits { IfOk result (IsNext count) }
+    ensures exact { (words : List (List ℕ)) → HasFields fields.entry words → TellsField result (put_fields count words) }
+    ensures fits { IfOk result (IsNextLine count) }
 {
     let (key, text) = number_and_text(fields)?;
     let value = value_of(alloc, text)?;
@@ -284,8 +284,8 @@ fn put_of(alloc: Global, count: usize, fields: Fields<'_>) -> Result<ProgramLine
 
 /// A line of a program that has so many commands.
 pub fn read_program_line(alloc: Global, count: usize, line: &[u8]) -> Result<ProgramLine, LineError>
-    ensures exact { Tells result (program_line count (words_of line.now)) }
-    ensures fits { IfOk result (IsNext count) }
+    ensures exact { TellsField result (program_line count (words_of line.now)) }
+    ensures fits { IfOk result (IsNextLine count) }
 {
     let (word, fields) = cut_fields(line);
     if word == b"get".as_slice() {

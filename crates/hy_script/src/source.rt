@@ -1,10 +1,10 @@
 //! The reader of scripts.
 ghost use Rattle.std.specs.Prelude.{◌≡◌, ◌+◌, ◌-◌, ◌<◌, ◌≤◌, ◌^◌, length, IfOk, IfSome, IsNone};
-ghost use Rattle.hy_script.specs.Laws.{IsSpellable};
+ghost use Rattle.hy_script.specs.Laws.{IsScriptSpellable};
 ghost use Rattle.hy_script.specs.Outcome.{Reads};
 ghost use Rattle.hy_script.specs.Lines.{lines_of};
 ghost use Rattle.hy_script.specs.Parts.{place_of};
-ghost use Rattle.hy_script.specs.Reading.{ended, read_script};
+ghost use Rattle.hy_script.specs.Reading.{script_ended, read_script};
 ghost use Rattle.hy_base.specs.Spelling.{Text};
 
 use crate::lines::{cut_line, is_skipped};
@@ -21,7 +21,7 @@ fn refused(line: u32, why: Why) -> ReadError
 
 // The script, where a source may end here; or else the line of this number is missing.
 fn finish(number: u32, place: Place) -> Result<Reading, ReadError>
-    ensures exact { (bytes : Text) → number ≡ length (lines_of bytes) + 1 → Reads (λ reading. reading) result (ended bytes (place_of place)) }
+    ensures exact { (bytes : Text) → number ≡ length (lines_of bytes) + 1 → Reads (λ reading. reading) result (script_ended bytes (place_of place)) }
     ensures schedule { IfOk result (λ reading. IsNone reading.schedule) }
 {
     match place {
@@ -38,7 +38,7 @@ fn finish(number: u32, place: Place) -> Result<Reading, ReadError>
 /// that is not in the grammar, and the first cause against it; `Memory` comes where memory was wanting.
 pub fn read_script(alloc: Global, bytes: &[u8], sim: bool) -> Result<Reading, ReadError>
     ensures exact { Reads (λ reading. reading) result (read_script bytes.now sim) }
-    ensures spellable { IfOk result (λ reading. IsSpellable reading.script) }
+    ensures spellable { IfOk result (λ reading. IsScriptSpellable reading.script) }
     // The bytes from there on can be given to `read_schedule`.
     ensures schedule { IfOk result (λ reading. IfSome reading.schedule (λ start. (start.offset ≤ length bytes.now) × (start.line + (length bytes.now - start.offset) < 2 ^ 32))) }
 {

@@ -7,7 +7,7 @@ ghost use Rattle.std.specs.Result.{result_map_both};
 
 use crate::Why;
 use crate::cut::cut;
-use crate::number::read_number;
+use hy_base::read_number;
 
 /// The fields of a line: none of them is empty, unless there are too many anyway.
 #[derive(Clone, Copy, Debug)]

@@ -17,7 +17,8 @@ use Rattle.hy_base.specs.Rows.{Each, newest}
 use Rattle.hy_base.proofs.EachLemmas.{Each-left, Each-right, Each-both, Each-map}
 use Rattle.hy_base.proofs.RowLemmas.{newest-append, ordered_newest}
 use Rattle.hy_rules.specs.Exec.{after_writes}
-use Rattle.hy_rules.specs.History.{is_commit, committed_at, history, history_from, pairs_of}
+use Rattle.hy_rules.specs.History.{committed_at, history, history_from, pairs_of}
+use Rattle.hy_base.specs.Verdicts.{is_commit}
 use Rattle.hy_rules.specs.Laws.{SeesAllBefore, IsSerial, AreSerial}
 use Rattle.hy_rules.specs.Validation.{verdicts_after, verdicts, live}
 use Rattle.hy_rules.proofs.Groups.{history_from-append}

@@ -24,7 +24,8 @@ use Rattle.hy_rules.specs.Exec.{Effects, intention}
 use Rattle.hy_rules.specs.Moves.{Setting, State, is_begun, may_begin, client_passes, enabled, surviving, missing, at_next_program, begun_at, appended, abandoned, restarted, board_of, home_server, after, stopped_if_armed, is_declared, ends_whole_group, fresh_session, opening}
 use Rattle.hy_rules.specs.Runs.{setting_of, opening_of, suits, may_happen, added, own_entry, pending, begun_snap, step, run}
 use Rattle.hy_rules.proofs.Backward.{next_state, run_keeps}
-use Rattle.hy_serial.specs.Sessions.{IsSessionOrdered, SessionsAreOrdered, begins, snapshot_of}
+use Rattle.hy_rules.specs.Sessions.{IsSessionOrdered, begins, snapshot_of}
+use Rattle.hy_serial.specs.Laws.{SessionsAreOrdered}
 use Rattle.hy_serial.proofs.Snapshots.{HasSnaps, IsSnap, all_at_nth, snaps_after, snaps_opening}
 
 -- ---- what changes at a place

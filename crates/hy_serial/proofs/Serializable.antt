@@ -19,15 +19,16 @@ use Rattle.hy_base.specs.declared.workload.Program.{Program}
 use Rattle.hy_base.specs.Entry.{is_in_span, is_rising, touches}
 use Rattle.hy_base.specs.Script.{Workload}
 use Rattle.hy_rules.specs.Exec.{Effects, no_effects, pair_before, after_writes, exec, intention}
-use Rattle.hy_rules.specs.History.{is_commit, committed_at, writes_at, history}
+use Rattle.hy_rules.specs.History.{committed_at, writes_at, history}
+use Rattle.hy_base.specs.Verdicts.{is_commit}
 use Rattle.hy_rules.specs.Laws.{SeesAllBefore, AreSerial}
 use Rattle.hy_rules.specs.Moves.{State}
 use Rattle.hy_rules.specs.Runs.{opening_of, program_of, Ending, ByReading, ByEntryAt, ByFullLog, ByStop, Ended, ended_in, answers_on, answers_to, verdict_at}
 use Rattle.hy_rules.specs.Validation.{verdicts, live}
 use Rattle.hy_rules.proofs.Serial.{commits_are_serial}
 use Rattle.hy_rules.proofs.Whole.{finished_log_is_whole}
-use Rattle.hy_serial.specs.Serial.{SerialRun, serial_run, is_entry_at, rerun, recorded, serial_writes, serial_map, serial_answers}
-use Rattle.hy_serial.specs.Laws.{CommitsSerially, ReadsSerially, IsSerializable, CommittedRunsSerially, OnlyTouchedKeysCount}
+use Rattle.hy_rules.specs.Serial.{SerialRun, serial_run, is_entry_at, rerun, recorded, serial_writes, serial_map, serial_answers, CommitsSerially, ReadsSerially, IsSerializable}
+use Rattle.hy_serial.specs.Laws.{CommittedRunsSerially, OnlyTouchedKeysCount}
 use Rattle.hy_serial.proofs.Pairs.{AllPairs-map, PairsRise, kept}
 use Rattle.hy_serial.proofs.Agreement.{Covers, same_all}
 use Rattle.hy_serial.proofs.Maps.{write_of, writes_of_rows}

@@ -18,7 +18,7 @@ use Rattle.hy_rules.specs.History.{pairs_of}
 use Rattle.hy_rules.specs.Runs.{program_of, Ending, ByReading, ByEntryAt, ByFullLog, ByStop, Ended}
 use Rattle.hy_rules.specs.Validation.{live}
 use Rattle.hy_rules.proofs.Growth.{growth_keeps_rows}
-use Rattle.hy_serial.specs.Serial.{is_entry_at}
+use Rattle.hy_rules.specs.Serial.{is_entry_at}
 use Rattle.hy_serial.proofs.Snapshots.{IsSnap, all_from, all_join}
 
 -- the program whose entry stands at a position

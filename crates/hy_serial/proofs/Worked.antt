@@ -16,7 +16,7 @@ use Rattle.hy_base.specs.declared.workload.Event.TheVariants.{Begin, Append, End
 use Rattle.hy_base.specs.Script.{Workload}
 use Rattle.hy_rules.specs.Moves.{State}
 use Rattle.hy_rules.specs.Runs.{run, step, next_event, opening_of, answers_to}
-use Rattle.hy_serial.specs.Serial.{SerialRun, serial_run, serial_map, serial_answers, answers_after}
+use Rattle.hy_rules.specs.Serial.{SerialRun, serial_run, serial_map, serial_answers, answers_after}
 
 -- the events that the tail rule gives from a state on, at most so many
 abbrev tail : Workload → ℕ → State → List Event

@@ -3,6 +3,4 @@ pub use Rattle.hy_rules.specs.Validation
 pub use Rattle.hy_rules.specs.Exec
 pub use Rattle.hy_rules.specs.Moves
 pub use Rattle.hy_rules.specs.Runs
-pub mod Serial
 pub mod Laws
-pub mod Sessions

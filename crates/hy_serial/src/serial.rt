@@ -1,6 +1,5 @@
 //! Runs are serializable. Each law is the contract of a function that does nothing.
-ghost use Rattle.hy_serial.specs.Laws.{CommittedRunsSerially, OnlyTouchedKeysCount};
-ghost use Rattle.hy_serial.specs.Sessions.{SessionsAreOrdered};
+ghost use Rattle.hy_serial.specs.Laws.{CommittedRunsSerially, OnlyTouchedKeysCount, SessionsAreOrdered};
 
 /// A program depends on no keys but those that its intention touches.
 pub fn only_touched_keys_count()

@@ -4,7 +4,7 @@
 ghost use Rattle.std.specs.Prelude.{◌≡◌, ◌∷◌, ◌+◌, ◌-◌, ◌++◌, [], length, codes, decimal, flat_map, IfOk, OnOk};
 ghost use Rattle.std.specs.List.{enumerate_from};
 ghost use Rattle.hy_base.specs.Spelling.{line};
-ghost use Rattle.hy_rules.specs.Texts.{ahead_fault_text, check_text, config_fault_text, device_fault_text, dump_text, entry_fault_text, entry_text, judged_text, page_fault_text, point_fault_text, row_text, waiting_text};
+ghost use Rattle.hy_formats.specs.Texts.{ahead_fault_text, check_text, config_fault_text, device_fault_text, dump_text, entry_fault_text, entry_text, judged_text, page_fault_text, point_fault_text, row_text, waiting_text};
 
 use crate::texts::{Word, put_line, put_rows, put_verdict};
 use hy_base::{Entry, EntryKind, Intention, Pos, Row, Shape, Verdict};

@@ -1,8 +1,8 @@
 //! The summary of a load.
 ghost use Rattle.std.specs.Prelude.{◌≡◌, ◌++◌, ◌∷◌, [], codes, count_by, decimal, length, IfOk, OnOk};
 ghost use Rattle.hy_base.specs.Spelling.{line};
-ghost use Rattle.hy_rules.specs.History.{is_commit};
-ghost use Rattle.hy_rules.specs.Texts.{is_filler, is_final, is_mate, is_pre, summary_text};
+ghost use Rattle.hy_base.specs.Verdicts.{is_commit};
+ghost use Rattle.hy_formats.specs.Texts.{is_filler, is_final, is_mate, is_pre, summary_text};
 
 use crate::texts::{Word, put_line};
 use hy_base::{Entry, EntryKind, Row, Shared, Verdict};

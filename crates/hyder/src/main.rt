@@ -24,7 +24,9 @@ use hy_io::{Sink, Source, StdSink, StdSource};
 use hy_pipe::{Gate, OpenGate};
 use hy_run::{Status, hyder_call};
 use std::alloc::{AllocError, Global};
+use std::fs::OpenOptions;
 use std::process::ExitCode;
+use std::rt::Files;
 use std::sync::Wait;
 use std::thread::Threads;
 use std::{env, io};
@@ -74,8 +76,18 @@ fn call<R: Threads + Wait + Sync, S: Source, K: Sink, D: Disk + Drop + Send, G: 
     exit_code(done.status)
 }
 
+// A folder, opened to be read: neither a read nor a write of it succeeds.
+fn folder<R: Files>(files: &R) -> Option<R::File> {
+    let mut how = OpenOptions::new();
+    how.read(true);
+    how.open(files, "/").ok()
+}
+
 fn main(rt: HostRuntime) -> ExitCode {
-    match words_of(&rt) {
+    // A process that was started with an end closed would give its number to the next file that it opens, which is the log, and
+    // the text would go there. So the numbers of the three ends are taken before any device is made: a closed end then fails.
+    let ends = [folder(&rt), folder(&rt), folder(&rt)];
+    let code = match words_of(&rt) {
         Ok(words) => call(
             &rt,
             rt.alloc(),
@@ -87,5 +99,7 @@ fn main(rt: HostRuntime) -> ExitCode {
             &OpenGate,
         ),
         Err(_) => exit_code(Status::Memory),
-    }
+    };
+    drop(ends);
+    code
 }

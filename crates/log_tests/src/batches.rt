@@ -4,9 +4,9 @@ ghost use Rattle.std.specs.Prelude.{◌≡◌, ◌≤◌, ◌<◌, [], length, N
 use crate::memory::log_with_room;
 use hy_base::Shape;
 use hy_disk::Tuned;
+use hy_formats::{BadPage, Damage};
 use hy_log::{AddError, OpenError, PageLog, open_log};
 use hy_mem::MemDisk;
-use hy_rules::{BadPage, Damage};
 use std::alloc::Global;
 use std::test::Fail;
 

@@ -1,8 +1,9 @@
 //! Small logs, rolled whole and in every cut.
 ghost use Rattle.std.specs.Prelude.{◌≡◌, ◌%◌, ◌≤◌, IfOk};
 ghost use Rattle.hy_base.specs.Shape.{IsGoodShape, IsWithin};
+ghost use Rattle.hy_base.specs.Limits.{IsThreadCount};
 ghost use Rattle.hy_base.specs.Rows.{Each};
-ghost use Rattle.hy_rules.specs.Checkpoint.{base_behind};
+ghost use Rattle.hy_formats.specs.Checkpoint.{base_behind};
 
 use hy_base::{
     Clash, Entry, Intention, Key, Points, Pos, Shape, Shared, Span, Spans, Value, ValueError,
@@ -76,7 +77,7 @@ fn further<R: Threads + Sync, G: Gate + Sync>(
 ) -> Result<Roller, Fail>
     requires good { IsGoodShape shape }
     requires same { roller.now.shape ≡ shape }
-    requires threads { IsWithin 1 16 threads }
+    requires threads { IsThreadCount threads }
     ensures { IfOk result (λ r. r.shape ≡ shape) }
 {
     if entries.len() % usize::from(shape.group) != 0 {
@@ -320,7 +321,7 @@ fn in_parts<R: Threads + Sync, G: Gate + Sync>(
     gate: &G,
 ) -> Result<Roller, Fail>
     requires good { IsGoodShape shape }
-    requires threads { IsWithin 1 16 threads }
+    requires threads { IsThreadCount threads }
     ensures { IfOk result (λ r. r.shape ≡ shape) }
 {
     if entries.len() < place {

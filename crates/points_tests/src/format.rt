@@ -2,8 +2,8 @@
 ghost use Rattle.hy_base.specs.Shape.{IsGoodShape};
 
 use hy_base::{Items, Shape};
+use hy_formats::Damage;
 use hy_points::{Point, PointError, decode_point, encode_point};
-use hy_rules::Damage;
 use hy_tree::Tree;
 use std::alloc::Global;
 use std::test::Fail;

@@ -1,9 +1,9 @@
 //! Runs that save a point, that begin from one, and points that are refused.
 use crate::calls::{Answer, call_on, empty, fine, roomy};
+use hy_formats::Damage;
 use hy_io::{MemSink, MemSource};
 use hy_mem::MemDisk;
 use hy_pipe::OpenGate;
-use hy_rules::Damage;
 use hy_run::Status;
 use std::alloc::Global;
 use std::sync::Wait;

@@ -2,11 +2,11 @@
 use crate::calls::{Answer, RUN, ask, call, empty, fine, roomy, told};
 use crate::logs::{DUMP, one_entry, one_put};
 use hy_base::Shape;
+use hy_formats::{Damage, LogPlace};
 use hy_io::{MemSink, MemSource};
 use hy_log::open_log;
 use hy_mem::MemDisk;
 use hy_pipe::OpenGate;
-use hy_rules::{Damage, LogPlace};
 use hy_run::Status;
 use std::alloc::Global;
 use std::sync::Wait;

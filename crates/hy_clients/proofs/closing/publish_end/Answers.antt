@@ -1,8 +1,8 @@
 use Rattle.std.proofs.Common.{◌≡◌, ◌∙◌, sym, ap, subst, length, arith}
 use Rattle.std.specs.Prelude.{Ok, Err}
 use Rattle.std.proofs.lemmas.Bool.Decides.{nat_tests}
-use Rattle.hy_rules.specs.Rolling.{roll_on}
-use Rattle.hy_hub.specs.Trace.{state_of}
+use Rattle.hy_rolling.specs.Rolling.{roll_on}
+use Rattle.hy_hub.specs.Trace.{state_after}
 use Rattle.hy_hub.specs.declared.mark.PublishRefusal.{PublishRefusal}
 use Rattle.hy_hub.specs.Laws.{IsPublished}
 use Rattle.hy_clients.proofs.Reaching.{even_at, looks_alone, looks_at_end, stays_there, publishes}
@@ -17,7 +17,7 @@ returns-then-is_empty-clause-ends g c =
     let none : length look.entries ≡ 0 = ap length (sym c.as_slice-entries.ensures) ∙ grind (arith, nat_tests) in
     let at = looks_at_end pass c.look.new.pass c.args.server look turn c.requires.all c.requires.pass.told even none in
     let same = looks_alone pass c.look.new.pass c.args.server look turn c.requires.all in
-    ap (λ (l : _). (state_of l).boards) same ∙ stays_there pass.seen c.args.server _ at
+    ap (λ (l : _). (state_after l).boards) same ∙ stays_there pass.seen c.args.server _ at
 
 pub returns-in-Ok-clause-log : goal.returns-in-Ok-clause-log
 returns-in-Ok-clause-log g c =

@@ -1,7 +1,7 @@
 use Rattle.std.proofs.Common.{◌≡◌, map, take}
 use Rattle.hy_rules.specs.Summary.{reads_in}
-use Rattle.hy_core.specs.Parts.{ended_of}
+use Rattle.hy_core.specs.Parts.{ended_in_course}
 use Rattle.hy_core.proofs.replies.reads_in.Given as goal
 
 abbrev pub invariant-loop-at : goal.invariant-loop-at
-invariant-loop-at l = l.count ≡ reads_in (map ended_of (take l.at l.told))
+invariant-loop-at l = l.count ≡ reads_in (map ended_in_course (take l.at l.told))

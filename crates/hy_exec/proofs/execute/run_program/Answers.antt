@@ -1,8 +1,6 @@
-use Rattle.std.proofs.Common.{◌∙◌, ap, arith, sym, length, drop, subst}
-use Rattle.hy_exec.specs.Running.{Running}
-use Rattle.std.proofs.Common.{◌+◌}
+use Rattle.std.proofs.Common.{◌∙◌, ap, arith, sym, length, drop, subst, ◌+◌}
+use Rattle.hy_exec.specs.Running.{Running, NotesAtMost}
 use Rattle.hy_exec.proofs.Counts.{few_more, one_more}
-use Rattle.hy_exec.specs.Running.{HoldsAtMost}
 use Rattle.hy_exec.proofs.Programs.{answers_left, effects_left, next_is, rest_are}
 use Rattle.hy_exec.proofs.execute.run_program.Goals as goal
 
@@ -23,7 +21,7 @@ loop-command-preserved c =
       at = ap (λ t. t.at) done ∙ c.loop-command.invariant.at;
       pairs = ap (λ t. t.pairs) done ∙ c.loop-command.invariant.pairs;
       commands = (rest_are items index command next c.loop-command.invariant.commands).1;
-      few = subst (λ (t : Running). HoldsAtMost (index + 1) t.effects) (sym done) (one_more before.pairs index before.effects command c.loop-command.invariant.few);
+      few = subst (λ (t : Running). NotesAtMost (index + 1) t.effects) (sym done) (one_more before.pairs index before.effects command c.loop-command.invariant.few);
       answers = answers_left (drop index items) (drop (index + 1) items) command before after next done c.in_ok-perform.field-0 c.loop-command.answers c.push.new.self _ c.in_ok-perform.ensures.answer c.in_ok-push.ensures.ok c.loop-command.invariant.answers;
       effects = effects_left (drop index items) (drop (index + 1) items) command before after next done _ c.loop-command.invariant.effects;
     }

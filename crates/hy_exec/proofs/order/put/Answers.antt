@@ -1,5 +1,5 @@
 use Rattle.std.proofs.Common.{◌∙◌, sym, arith}
-use Rattle.hy_exec.proofs.Rising.{put_replaces}
+use Rattle.hy_rules.proofs.Rising.{put_replaces}
 use Rattle.hy_exec.proofs.order.put.Goals.{then-loop-at-test+else-is_past, else-loop-at-test}
 use Rattle.hy_exec.proofs.order.put.Goals as goal
 

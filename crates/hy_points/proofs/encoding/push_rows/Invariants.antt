@@ -1,6 +1,6 @@
 use Rattle.std.proofs.Common.{◌≡◌, ◌++◌, take}
 use Rattle.std.specs.Prelude.{flat_map}
-use Rattle.hy_rules.specs.PointFormat.{row_bytes}
+use Rattle.hy_formats.specs.PointFormat.{row_bytes}
 use Rattle.hy_points.proofs.Trees.{IsNext}
 use Rattle.hy_points.proofs.encoding.push_rows.Given as goal
 

@@ -1,8 +1,8 @@
 use Rattle.std.proofs.Common.{None}
 use Rattle.std.proofs.lemmas.Result.{err_from_is_err_and}
-use Rattle.hy_rules.specs.Reading.{items_at}
+use Rattle.hy_formats.specs.Reading.{items_at}
 use Rattle.hy_codec.proofs.Loops.{goes_on, ends, is_done}
-use Rattle.hy_rules.specs.PointFormat.{saved_row_at}
+use Rattle.hy_formats.specs.PointFormat.{saved_row_at}
 use Rattle.hy_points.proofs.fields.rows_at.Goals as goal
 
 pub returns-in_err-row : goal.returns-in_err-row

@@ -1,7 +1,7 @@
 use Rattle.std.proofs.Common.{◌≡◌, ◌-◌, None}
-use Rattle.hy_rules.specs.Reading.{items_at}
+use Rattle.hy_formats.specs.Reading.{items_at}
 use Rattle.hy_codec.proofs.Loops.{with_front}
-use Rattle.hy_rules.specs.PointFormat.{saved_row_at}
+use Rattle.hy_formats.specs.PointFormat.{saved_row_at}
 use Rattle.hy_points.proofs.fields.rows_at.Given as goal
 
 abbrev pub invariant-loop : goal.invariant-loop

@@ -1,5 +1,5 @@
 use Rattle.std.proofs.Common.{sym, ◌∙◌}
-use Rattle.hy_rules.proofs.Dependencies.{raised_know}
+use Rattle.hy_rolling.proofs.Dependencies.{raised_know}
 use Rattle.hy_premeld.proofs.Judging.{judged}
 use Rattle.hy_premeld.proofs.advance.premeld.Goals as goal
 

@@ -1,6 +1,6 @@
 use Rattle.std.proofs.Common.{◌≡◌, ◌+◌, ◌/◌, ◌∙◌, subst, rules, arith}
 use Rattle.hy_base.specs.Shape.{premeld_base}
-use Rattle.hy_rules.specs.Rolling.{Roll}
+use Rattle.hy_rolling.specs.Rolling.{Roll}
 use Rattle.hy_restart.proofs.RollerPoints.{base_at, can_save, point_is}
 use Rattle.hy_restart.proofs.roller.point_of.Goals as goal
 

@@ -1,7 +1,7 @@
 use Rattle.std.proofs.Common.{◌≡◌, ◌+◌, ◌++◌, drop}
 use Rattle.std.specs.Prelude.{flat_map}
 use Rattle.std.specs.List.{enumerate_from}
-use Rattle.hy_rules.specs.Texts.{entry_text}
+use Rattle.hy_formats.specs.Texts.{entry_text}
 use Rattle.hy_text.proofs.log_texts.put_entries.Given as goal
 
 -- what was written so far, and what is left

@@ -1,5 +1,5 @@
 use Rattle.std.proofs.Common.{◌≡◌, ◌-◌, ◌++◌}
-use Rattle.hy_rules.specs.Texts.{waiting_text}
+use Rattle.hy_formats.specs.Texts.{waiting_text}
 use Rattle.hy_text.proofs.log_texts.put_waits.Given as goal
 
 -- what was written so far, and the positions that are left

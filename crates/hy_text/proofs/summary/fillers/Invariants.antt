@@ -1,6 +1,6 @@
 use Rattle.std.proofs.Common.{◌≡◌, take}
 use Rattle.std.specs.Prelude.{count_by}
-use Rattle.hy_rules.specs.Texts.{is_filler}
+use Rattle.hy_formats.specs.Texts.{is_filler}
 use Rattle.hy_text.proofs.summary.fillers.Given as goal
 
 abbrev pub invariant-loop-entry : goal.invariant-loop-entry

@@ -1,6 +1,6 @@
 use Rattle.std.proofs.Common.{◌≡◌, ◌++◌, drop}
 use Rattle.std.specs.Prelude.{flat_map}
-use Rattle.hy_rules.specs.Texts.{answer_text}
+use Rattle.hy_formats.specs.Texts.{answer_text}
 use Rattle.hy_text.proofs.texts.put_answers.Given as goal
 
 -- what was written so far, and what is left

@@ -4,8 +4,8 @@ use Rattle.hy_base.specs.declared.layout.Shape.{Shape}
 use Rattle.hy_base.specs.declared.record.Row.{Row}
 use Rattle.hy_base.specs.Shape.{IsGoodShape, IsWithin, base_groups}
 use Rattle.hy_base.specs.Rows.{Each}
-use Rattle.hy_rules.specs.Rolling.{AreWritten, Roll, rolled_upto, next_base}
-use Rattle.hy_rules.specs.Checkpoint.{base_behind}
+use Rattle.hy_rolling.specs.Rolling.{AreWritten, Roll, rolled_upto, next_base}
+use Rattle.hy_formats.specs.Checkpoint.{base_behind}
 use Rattle.hy_pipe.specs.RollerLaws.{IsRoller}
 use Rattle.meld_tests.proofs.roller.start_of.Goals as goal
 

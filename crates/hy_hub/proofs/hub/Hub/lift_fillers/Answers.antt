@@ -1,5 +1,5 @@
 use Rattle.std.proofs.Common.{rules, ◌≡◌, ◌++◌, List, [], sym, subst, ap, ◌∙◌, false}
-use Rattle.hy_hub.specs.declared.mark.Mark.{Mark}
+use Rattle.hy_hub.specs.declared.mark.Occurrence.{Occurrence}
 use Rattle.hy_hub.specs.Flights.{PadAdvances}
 use Rattle.hy_hub.proofs.Passing.{some_server}
 use Rattle.hy_hub.proofs.Stepping.{pad_leaves, pad_stepped}
@@ -22,7 +22,7 @@ returns-clause-step g c =
     let h = c.hold-contents.ensures in
     let p = c.give.ensures in
     let list = h.list in
-    let done = subst (λ (l : List Mark). PadAdvances g.D.Disk.tells g.D.Disk.faults_of c.args.server c.lift_fillers-step.result l adds.added) list adds.done in
+    let done = subst (λ (l : List Occurrence). PadAdvances g.D.Disk.tells g.D.Disk.faults_of c.args.server c.lift_fillers-step.result l adds.added) list adds.done in
     let seen = p.seen ∙ (adds.is ∙ ap (λ l. l ++ adds.added) list) in
     pad_stepped g.D.Disk.tells g.D.Disk.faults_of c.args.self.now.parts c.args.self.now c.args.server c.lift_fillers-step.result c.args.pass.now c.hold-contents.new.pass c.give.new.pass adds.added h.grown (rw (← c.self.view_is) h.whole) h.made adds.few
     seen (rw p.seen c.is_told.ensures) p.order (search rules) (p.kept.0 ∙ h.kept.0 ∙ c.requires.pass.0) p.idle (search rules) done

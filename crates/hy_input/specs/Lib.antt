@@ -1,2 +1,0 @@
-pub use Rattle.hy_script.specs.Reading
-pub mod Source
