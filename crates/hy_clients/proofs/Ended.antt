@@ -28,7 +28,7 @@ use Rattle.hy_clients.specs.declared.answered.End as end
 use Rattle.hy_clients.specs.declared.answered.End.TheVariants.{Reading}
 use Rattle.hy_clients.specs.Passing.{IsRunPass, IsNextTurn, OpensStanding}
 use Rattle.hy_clients.specs.Programs.{EndsProgram, EndsAs, before}
-use Rattle.hy_clients.specs.Serving.{IsServedClient, AreLive, TakesEntry, Takes, EndsReading, IsOwnEnd, EndsBy, EndsProgram}
+use Rattle.hy_clients.specs.Serving.{IsServedClient, AreLive, TakesEntry, Takes, EndsReading, IsOwnEnd, EndsBy, EndsServed}
 use Rattle.hy_clients.proofs.Turning.{prefix_length, prefix_take, take_prefix}
 use Rattle.hy_clients.proofs.Living.{live_on}
 use Rattle.hy_clients.proofs.Openings.{stood_before}
@@ -82,7 +82,7 @@ execution_is script client number snap program list rows e live_rows stood =
 pub program_ends : (script : Workload) (client server number : ℕ) (program : Program) (rows : List Row) (f : Finished) (old new : Known Occurrence) (told : Answered)
     → home_server (script_setting script) client ≡ server → program_of script client number ≡ Some program → IsHubHistory old.seen → AreLive script old.seen told.snap rows
     → f ≡ finish_of server client (record { at = told.snap; pairs = pairs_of rows; effects = (exec program (pairs_of rows)).1 }) → told.answers ≡ (exec program (pairs_of rows)).0 → EndsBy client f old new told.end
-    → EndsProgram script client number old new told
+    → EndsServed script client number old new told
 program_ends script client server number program rows f old new told home e is live_rows left answers ends =
     let effects : Effects = (exec program (pairs_of rows)).1 in
     let by : EndsFor script client told.snap effects old new told.end = ends_for script client server told.snap effects old new told.end home (pairs_of rows) f left ends in
@@ -98,5 +98,5 @@ program_ends script client server number program rows f old new told home e is l
       answers = λ stood. answers ∙ sym (ap (λ (o : Option (List Answer × Effects)). option_map_or (λ d. d.0) o []) (done stood));
     }
 
-pub ends_same : (script : Workload) (client number : ℕ) (old new : Known Occurrence) (mine told : Answered) → mine ≡ told → EndsProgram script client number old new mine → EndsProgram script client number old new told
-ends_same script client number old new mine told same ends = subst (λ (t : Answered). EndsProgram script client number old new t) same ends
+pub ends_same : (script : Workload) (client number : ℕ) (old new : Known Occurrence) (mine told : Answered) → mine ≡ told → EndsServed script client number old new mine → EndsServed script client number old new told
+ends_same script client number old new mine told same ends = subst (λ (t : Answered). EndsServed script client number old new t) same ends

@@ -11,7 +11,7 @@ use Rattle.hy_hub.specs.Calls.{board_at}
 use Rattle.hy_clients.specs.declared.answered.Answered.{Answered}
 use Rattle.hy_clients.specs.Passing.{own_turns, GoesOn}
 use Rattle.hy_clients.specs.Programs.{IsServed, AreServed, EndsProgram, EndsAs, before, effects_on, answers_given}
-use Rattle.hy_clients.specs.Serving.{Begins, EndsProgram, Serves}
+use Rattle.hy_clients.specs.Serving.{Begins, EndsServed, Serves}
 use Rattle.hy_clients.proofs.Openings.{stood_before}
 use Rattle.hy_clients.proofs.Turning.{prefix_length, take_same, goes_further, next_after}
 
@@ -20,13 +20,13 @@ use Rattle.hy_clients.proofs.Turning.{prefix_length, take_same, goes_further, ne
 pub begins_after : (script : Workload) (client : ℕ) (a b c : Known Occurrence) (begun : Begun) → GoesOn client a b [] → Begins script client b c begun → Begins script client a c begun
 begins_after script client a b c begun g is = record { turn = is.turn; next = next_after client a b c is.turn g is.next; begins = is.begins; snap = is.snap; rows = is.rows }
 
-pub ends_after : (script : Workload) (client number : ℕ) (a b c : Known Occurrence) (told : Answered) → GoesOn client a b [] → EndsProgram script client number b c told → EndsProgram script client number a c told
+pub ends_after : (script : Workload) (client number : ℕ) (a b c : Known Occurrence) (told : Answered) → GoesOn client a b [] → EndsServed script client number b c told → EndsServed script client number a c told
 ends_after script client number a b c told g is = record { turn = is.turn; next = next_after client a b c is.turn g is.next; ends = is.ends; ends_as = is.ends_as; answers = is.answers }
 
 -- ---- one program
 
 -- a program that was begun and then ended was served
-pub serves : (script : Workload) (client number : ℕ) (old mid new : Known Occurrence) (begun : Begun) (told : Answered) → Begins script client old mid begun → 0 < length old.seen → told.snap ≡ begun.snap → EndsProgram script client number mid new told → Serves script client number old new told
+pub serves : (script : Workload) (client number : ℕ) (old mid new : Known Occurrence) (begun : Begun) (told : Answered) → Begins script client old mid begun → 0 < length old.seen → told.snap ≡ begun.snap → EndsServed script client number mid new told → Serves script client number old new told
 serves script client number old mid new begun told b some snap e =
     let first : ℕ × Occurrence = b.turn in
     let last : ℕ × Occurrence = e.turn in
@@ -51,7 +51,7 @@ serves script client number old mid new begun told b some snap e =
       };
     }
 
-pub serve_tells : {E : Type 0} (script : Workload) (client number : ℕ) (old mid new : Known Occurrence) (begun : Begun) (answer : Result Answered E) → Begins script client old mid begun → 0 < length old.seen → IfOk answer (λ told. told.snap ≡ begun.snap) → IfOk answer (EndsProgram script client number mid new)
+pub serve_tells : {E : Type 0} (script : Workload) (client number : ℕ) (old mid new : Known Occurrence) (begun : Begun) (answer : Result Answered E) → Begins script client old mid begun → 0 < length old.seen → IfOk answer (λ told. told.snap ≡ begun.snap) → IfOk answer (EndsServed script client number mid new)
     → IfOk answer (Serves script client number old new)
 serve_tells script client number old mid new begun (Ok told) b some snap e = serves script client number old mid new begun told b some snap e
 serve_tells script client number old mid new begun (Err error) b some snap e = tt

@@ -71,7 +71,7 @@ EndsBy client (ReadOnly at) old new told = (told ≡ Reading) × EndsReading cli
 EndsBy client (Entry entry) old new told = Takes client entry old new told
 
 -- the client's program of this number ended. Where the first roller stood, it did so as on its snapshot.
-pub record EndsProgram (script : Workload) (client number : ℕ) (old new : Known Occurrence) (told : Answered) : Type 0 where
+pub record EndsServed (script : Workload) (client number : ℕ) (old new : Known Occurrence) (told : Answered) : Type 0 where
   pub turn : ℕ × Occurrence
   pub next : IsNextTurn client old new turn
   pub ends_as : EndsAs (len_of (before new.seen turn)) turn.1 told.end

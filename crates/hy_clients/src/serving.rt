@@ -8,7 +8,7 @@ ghost use Rattle.hy_rolling.specs.Rolling.{rolled_upto};
 ghost use Rattle.hy_hub.specs.Calls.{IsEntryOf, IsRollable, IsRollerOf, len_of};
 ghost use Rattle.hy_clients.specs.Passing.{IsRunPass, GoesOn, own_turns};
 ghost use Rattle.hy_clients.specs.Programs.{AreServed};
-ghost use Rattle.hy_clients.specs.Serving.{AreLive, Begins, EndsProgram, EndsBy, EndsReading, IsServedClient, IsOwnEnd, Serves, Takes};
+ghost use Rattle.hy_clients.specs.Serving.{AreLive, Begins, EndsServed, EndsBy, EndsReading, IsServedClient, IsOwnEnd, Serves, Takes};
 
 use crate::answered::{Answered, End};
 use hy_base::{Client, Entry, Pos, Program, Script};
@@ -280,7 +280,7 @@ fn run_once<D: Disk, R: Wait>(
     ensures pass { IsRunPass hub.now script.now pass.new }
     ensures parts { pass.new.parts ≡ pass.old.parts }
     ensures snap { (told : _) → result ≡ Ok (Some told) → told.snap ≡ begun.now.snap }
-    ensures ended { (told : _) → result ≡ Ok (Some told) → EndsProgram script.now client number pass.old pass.new told }
+    ensures ended { (told : _) → result ≡ Ok (Some told) → EndsServed script.now client number pass.old pass.new told }
     ensures not { result ≡ Ok None → GoesOn client pass.old pass.new [] }
 {
     let _ = number;
@@ -313,7 +313,7 @@ fn finish_program<D: Disk, R: Wait>(
     ensures pass { IsRunPass hub.now script.now pass.new }
     ensures parts { pass.new.parts ≡ pass.old.parts }
     ensures snap { IfOk result (λ told. told.snap ≡ begun.now.snap) }
-    ensures ended { IfOk result (EndsProgram script.now client number pass.old pass.new) }
+    ensures ended { IfOk result (EndsServed script.now client number pass.old pass.new) }
 {
     for _ in rt.forever() {
         let told = run_once(

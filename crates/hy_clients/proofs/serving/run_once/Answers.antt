@@ -13,7 +13,7 @@ use Rattle.hy_clients.proofs.serving.run_once.Goals as goal
 pub end_program-requires-clause-own : goal.end_program-requires-clause-own
 end_program-requires-clause-own g c =
     let run : Running = record { at = c.args.begun.now.snap; pairs = pairs_of c.in_ok-tree.tree; effects = (exec c.args.program.now (pairs_of c.in_ok-tree.tree)).1 } in
-    own_end c.args.hub.now c.args.script.now c.args.client c.args.server c.args.pass.now run c.in_ok-answers.field-0.finished c.requires.client c.requires.pass c.in_ok-answers.ensures.finished
+    own_end c.args.hub.now c.args.script.now c.args.client c.args.server c.args.pass.now run c.in_ok-answers.field-0.finished c.requires.client c.requires.pass c.in_ok-answers.ensures.finish_of
 
 pub returns-in-Some-clause-ended : goal.returns-in-Some-clause-ended
 returns-in-Some-clause-ended g c = λ told e.
@@ -25,4 +25,4 @@ returns-in-Some-clause-ended g c = λ told e.
     let mine : Answered = record { snap = c.args.begun.now.snap; end = c.in-Some.end; answers = c.in_ok-answers.field-0.answers } in
     ends_same script c.args.client c.args.number c.args.pass.now c.end_program.new.pass mine told (same_answer mine told e)
     (program_ends script c.args.client c.args.server c.args.number c.args.program.now c.in_ok-tree.tree left c.args.pass.now c.end_program.new.pass mine
-    (home_is script c.args.client c.args.server c.requires.client) c.requires.program c.requires.pass.told rows c.in_ok-answers.ensures.finished c.in_ok-answers.ensures.answers ended)
+    (home_is script c.args.client c.args.server c.requires.client) c.requires.program c.requires.pass.told rows c.in_ok-answers.ensures.finish_of c.in_ok-answers.ensures.answers ended)
