@@ -109,14 +109,19 @@ fn crashed<R: Threads + Wait + Sync>(
     Ok((acked, done.acked))
 }
 
-// A crash after a failure leaves the entries that were acknowledged, and at most one more.
+// A crash after a failure leaves the entries that were acknowledged, and at most one batch more: each client has at most one entry in it.
 #[test]
 fn a_device_fails_under_three_clients(rt: HostRuntime) -> Result<(), Fail> {
     let alloc = rt.alloc();
     for k in 8..28 {
         for pattern in 0..3 {
             let (acked, left) = crashed(&rt, alloc, k, pattern)?;
-            assert!(rt; left == acked || left.checked_sub(1) == Some(acked));
+            assert!(rt;
+                left == acked
+                    || left.checked_sub(1) == Some(acked)
+                    || left.checked_sub(2) == Some(acked)
+                    || left.checked_sub(3) == Some(acked)
+            );
         }
     }
     Ok(())
