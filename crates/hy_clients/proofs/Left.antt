@@ -86,6 +86,7 @@ module _ {D : Type 0} {tells : Bool} {content : D → Content} {faults : ℕ} {l
         bodies = λ t. torn.bodies ∙ ap (map spelling) mine;
         torn = λ t some. record {
           batch = torn.batch;
+          size = torn.size;
           lawful = subst (λ (l : List EntryKind). IsLawful shape (l ++ torn.batch)) mine (subst (λ (s : Shape). IsLawful s (entries ++ torn.batch)) here torn.lawful);
           sound = torn.sound;
           left = λ image is. subst (λ (s : Shape). HoldsUpTo s log.bodies (map spelling torn.batch) image) here (torn.left image is);

@@ -3,6 +3,7 @@ use Rattle.std.specs.Prelude.{◌≡◌, ◌≢◌, ℕ, Bool, true, false, IsTr
 use Rattle.std.specs.List.{AllByRecursion, list_any}
 use mathlib.Core.List.{IsPrefix}
 use Rattle.hy_base.specs.Log.{IsLawful}
+use Rattle.hy_base.specs.Shape.{IsWithin}
 use Rattle.hy_base.specs.declared.record.EntryKind.{EntryKind}
 use Rattle.hy_base.specs.declared.report.Reply.{Reply}
 use Rattle.hy_base.specs.declared.workload.Event.{Event}
@@ -55,10 +56,12 @@ pub record IsFinished {D : Type 0} (tells : Bool) (script : Workload) (found : L
   pub log_is : IsLogOf tells script.shape end.log log
   pub told : Stands (take (rolled_upto start) found) start → IsToldRun script found events end replies boards
 
--- A batch of entries at which a device failed. They are lawful behind the log's, and each is read again from its spelling.
+-- A batch of at most eight entries at which a device failed. They are lawful behind the log's, and each is read again from
+-- its spelling.
 -- A crash leaves the log's bodies, or these and those of the whole batch.
 pub record IsTornBehind {D : Type 0} (content : D → Content) (shape : Shape) (entries : List EntryKind) (log : LogView D) : Type 0 where
   pub batch : List EntryKind
+  pub size : IsWithin 1 8 (length batch)
   pub lawful : IsLawful shape (entries ++ batch)
   pub sound : AllByRecursion IsSoundLog batch
   pub left : (image : List ℕ) → Image (content log.disk) image → HoldsUpTo shape log.bodies (map spelling batch) image
