@@ -8,7 +8,7 @@ use hy_disk::{Disk, Tuned};
 use hy_io::{MemSink, MemSource};
 use hy_mem::MemDisk;
 use hy_pipe::{Gate, OpenGate};
-use hy_run::{Done, Status, hyder_call};
+use hy_run::{Done, hyder_call};
 use std::alloc::{AllocError, Global};
 use std::sync::Wait;
 use std::test::Fail;
@@ -89,10 +89,10 @@ pub fn ask<R: Threads + Wait + Sync>(
     Ok((done, sink))
 }
 
-/// What a call is to answer and to write.
+/// What a call is to answer and to write: its exit status, and the rest.
 #[derive(Clone, Copy)]
 pub struct Answer<'a> {
-    pub status: Status,
+    pub number: u8,
     pub acked: Pos,
     pub text: &'a [u8],
 }
@@ -100,10 +100,17 @@ pub struct Answer<'a> {
 /// What a call is to write that ends well over a log which then has so many entries.
 pub fn fine(acked: Pos, text: &[u8]) -> Answer<'_> {
     Answer {
-        status: Status::Fine,
+        number: 0,
         acked,
         text,
     }
+}
+
+/// Whether a call answered and wrote this.
+pub fn is_answered<D>(done: &Done<D>, sink: &MemSink, wanted: Answer<'_>) -> bool {
+    done.status.number() == wanted.number
+        && done.acked == wanted.acked
+        && sink.taken() == wanted.text
 }
 
 /// A call over a log, which has to answer and to write this. It answers the device; the error says what the call shows.
@@ -117,8 +124,7 @@ pub fn told<R: Threads + Wait + Sync>(
     wanted: Answer<'_>,
 ) -> Result<MemDisk, Fail> {
     let (done, sink) = ask(rt, alloc, asked, script, log)?;
-    let is_answered = done.status == wanted.status && done.acked == wanted.acked;
-    if !is_answered || sink.taken() != wanted.text {
+    if !is_answered(&done, &sink, wanted) {
         return Err(what)?;
     }
     Ok(done.log)

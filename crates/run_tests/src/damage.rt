@@ -1,43 +1,42 @@
-//! Calls of `recover` and `check` over logs that are good, damaged, or on a device that fails.
-use crate::calls::{Answer, call, fine, roomy, told};
+//! Calls of `recover` and `check` over logs that are good or damaged.
+use crate::calls::{Answer, fine, roomy, told};
 use crate::logs::{CHECK, DUMP, NONE, one_entry, one_put};
 use hy_base::Pos;
-use hy_disk::{Disk, Tuned};
-use hy_formats::{Damage, LogPlace};
-use hy_io::{MemSink, MemSource};
 use hy_mem::MemDisk;
-use hy_pipe::OpenGate;
-use hy_run::{Done, Status, Which};
 use std::alloc::Global;
 use std::sync::Wait;
 use std::test::Fail;
 use std::thread::Threads;
 
-// A log that is refused. One with bad pages isn't opened; the others here have one entry.
-fn refused(place: LogPlace, why: Damage, text: &[u8]) -> Answer<'_> {
-    let acked = match place {
-        LogPlace::Page(_) => 0,
-        LogPlace::Entry(_) => 1,
-    };
-    Answer {
-        status: Status::Log { place, why },
-        acked,
-        text,
+/// A device of which so many bytes of these are left, and some changed.
+pub fn damaged(
+    alloc: Global,
+    bytes: &[u8],
+    left: usize,
+    changes: &[(usize, u8)],
+) -> Result<MemDisk, Fail> {
+    let mut bytes = bytes.to_vec(alloc)?;
+    bytes.truncate(left);
+    for (at, byte) in changes {
+        if let Some(place) = bytes.get_mut(*at) {
+            *place = *byte;
+        }
     }
+    Ok(roomy(alloc, &bytes)?)
 }
 
-// A command over a device with these bytes, which stay. It may open the gate behind the last of them.
+// A command over a log, which stays as it is where it is refused. Else the gate behind its last record may be closed.
 fn looked<R: Threads + Wait + Sync>(
     rt: &R,
     alloc: Global,
     command: &'static str,
-    bytes: &[u8],
+    log: MemDisk,
     wanted: Answer<'_>,
 ) -> Result<(), Fail> {
-    let log = roomy(alloc, bytes)?;
+    let bytes = log.bytes().to_vec(alloc)?;
     let log = told(rt, alloc, command, &[command], b"", log, wanted)?;
-    if !log.bytes().starts_with(bytes) {
-        return Err("other bytes")?;
+    if wanted.number != 0 && log.bytes() != bytes.as_slice() {
+        return Err("a refused device was written to")?;
     }
     Ok(())
 }
@@ -54,109 +53,95 @@ fn a_log_is_dumped_and_checked(rt: HostRuntime) -> Result<(), Fail> {
         ("check", b"\0", 0, b"empty\n"),
     ];
     for (command, bytes, acked, text) in rows {
-        looked(&rt, rt.alloc(), command, bytes, fine(acked, text))?;
+        let log = roomy(rt.alloc(), bytes)?;
+        looked(&rt, rt.alloc(), command, log, fine(acked, text))?;
     }
     Ok(())
 }
 
-// A byte of the log of one put, what stands in its place, where the log is then refused, and for what.
-const DAMAGED: [(usize, u8, LogPlace, Damage, &[u8]); 12] = [
-    (
-        0,
-        0x46,
-        LogPlace::Page(0),
-        Damage::Gate,
-        b"hyder: log page 0 gate\n",
-    ),
-    (
-        1,
-        0,
-        LogPlace::Page(0),
-        Damage::Magic,
-        b"hyder: log page 0 magic\n",
-    ),
-    (
-        9,
-        9,
-        LogPlace::Page(0),
-        Damage::Version,
-        b"hyder: log page 0 version\n",
-    ),
-    (
-        10,
-        0,
-        LogPlace::Page(0),
-        Damage::Shape,
-        b"hyder: log page 0 shape\n",
-    ),
-    (
-        200,
-        1,
-        LogPlace::Page(0),
-        Damage::Fill,
-        b"hyder: log page 0 fill\n",
-    ),
-    (
-        257,
-        0,
-        LogPlace::Page(1),
-        Damage::Length,
-        b"hyder: log page 1 length\n",
-    ),
-    (
-        300,
-        1,
-        LogPlace::Page(1),
-        Damage::Fill,
-        b"hyder: log page 1 fill\n",
-    ),
-    (
-        261,
-        2,
-        LogPlace::Entry(1),
-        Damage::Kind,
-        b"hyder: log entry 1 kind\n",
-    ),
-    (
-        262,
-        9,
-        LogPlace::Entry(1),
-        Damage::Server,
-        b"hyder: log entry 1 server\n",
-    ),
-    (
-        264,
-        1,
-        LogPlace::Entry(1),
-        Damage::Snap,
-        b"hyder: log entry 1 snap\n",
-    ),
-    (
-        280,
-        2,
-        LogPlace::Entry(1),
-        Damage::Short,
-        b"hyder: log entry 1 short\n",
-    ),
-    (
-        282,
-        32,
-        LogPlace::Entry(1),
-        Damage::Byte,
-        b"hyder: log entry 1 byte\n",
-    ),
+// Damages of the log of one put, each by the bytes that are changed, and the line of its refusal.
+const PAGES: [(&[(usize, u8)], &[u8]); 9] = [
+    (&[(0, 0x46)], b"hyder: log page 0 gate\n"),
+    (&[(0, 0x46), (1, 0)], b"hyder: log page 0 gate\n"),
+    (&[(1, 0)], b"hyder: log page 0 magic\n"),
+    (&[(9, 9)], b"hyder: log page 0 version\n"),
+    (&[(10, 0)], b"hyder: log page 0 shape\n"),
+    (&[(200, 1)], b"hyder: log page 0 fill\n"),
+    (&[(256, 0x46), (257, 0)], b"hyder: log page 1 gate\n"),
+    (&[(257, 0)], b"hyder: log page 1 length\n"),
+    (&[(300, 1)], b"hyder: log page 1 fill\n"),
 ];
+
+const ENTRIES: [(usize, u8, &[u8]); 7] = [
+    (261, 2, b"hyder: log entry 1 kind\n"),
+    (262, 9, b"hyder: log entry 1 server\n"),
+    (264, 1, b"hyder: log entry 1 snap\n"),
+    (270, 0, b"hyder: log entry 1 count\n"),
+    (279, 2, b"hyder: log entry 1 tag\n"),
+    (280, 2, b"hyder: log entry 1 short\n"),
+    (282, 32, b"hyder: log entry 1 byte\n"),
+];
+
+fn refused(acked: Pos, text: &[u8]) -> Answer<'_> {
+    Answer {
+        number: 6,
+        acked,
+        text,
+    }
+}
 
 #[test]
 fn a_damaged_log_is_refused(rt: HostRuntime) -> Result<(), Fail> {
-    for (at, byte, place, why, text) in DAMAGED {
-        for command in ["recover", "check"] {
-            let mut bytes = one_put();
-            if let Some(damaged) = bytes.get_mut(at) {
-                *damaged = byte;
-            }
-            looked(&rt, rt.alloc(), command, &bytes, refused(place, why, text))?;
+    let alloc = rt.alloc();
+    let bytes = one_put();
+    for command in ["recover", "check"] {
+        for (changes, text) in PAGES {
+            let log = damaged(alloc, &bytes, 513, changes)?;
+            looked(&rt, alloc, command, log, refused(0, text))?;
         }
+        for (at, byte, text) in ENTRIES {
+            let log = damaged(alloc, &bytes, 513, &[(at, byte)])?;
+            looked(&rt, alloc, command, log, refused(1, text))?;
+        }
+    }
+    Ok(())
+}
+
+// Damages of it that are none: an unborn device, a torn gate without a record behind it.
+const UNBORN: [&[(usize, u8)]; 2] = [&[(0, 0)], &[(0, 0x46), (256, 0)]];
+
+#[test]
+fn a_crash_is_no_damage(rt: HostRuntime) -> Result<(), Fail> {
+    let alloc = rt.alloc();
+    let bytes = one_put();
+    for changes in UNBORN {
+        let log = damaged(alloc, &bytes, 513, changes)?;
+        looked(&rt, alloc, "recover", log, fine(0, b"empty\n"))?;
+    }
+    let log = damaged(alloc, &bytes, 513, &[(256, 0x46)])?;
+    looked(&rt, alloc, "recover", log, fine(0, NONE))?;
+    let log = damaged(alloc, &bytes, 513, &[(512, 1)])?;
+    looked(&rt, alloc, "recover", log, fine(1, DUMP))
+}
+
+// What `recover` answers of the first so many bytes of the log of one put.
+fn of_cut(left: usize) -> Answer<'static> {
+    match left {
+        0..2 => fine(0, b"empty\n"),
+        2..256 => refused(0, b"hyder: log page 0 short\n"),
+        256..258 => fine(0, NONE),
+        258..512 => refused(0, b"hyder: log page 1 short\n"),
+        _ => fine(1, DUMP),
+    }
+}
+
+#[test]
+fn a_log_is_cut(rt: HostRuntime) -> Result<(), Fail> {
+    let alloc = rt.alloc();
+    let bytes = one_put();
+    for left in 0..514 {
+        let log = damaged(alloc, &bytes, left, &[])?;
+        looked(&rt, alloc, "recover", log, of_cut(left))?;
     }
     Ok(())
 }
@@ -170,46 +155,14 @@ fn an_entry_out_of_order_or_ahead_is_refused(rt: HostRuntime) -> Result<(), Fail
     ];
     // Snapshot 2, in groups of two.
     let ahead = [1, 1, 1, 2, 0, 0, 0, 0, 0, 1, 1, 0, 0, 0, 0, 0, 0, 0, 0];
-    let place = LogPlace::Entry(1);
-    for command in ["recover", "check"] {
-        let log = one_entry(1, &out_of_order);
-        let wanted = refused(place, Damage::Order, b"hyder: log entry 1 order\n");
-        looked(&rt, rt.alloc(), command, &log, wanted)?;
-        let log = one_entry(2, &ahead);
-        let wanted = refused(place, Damage::Snap, b"hyder: log entry 1 snap\n");
-        looked(&rt, rt.alloc(), command, &log, wanted)?;
-    }
-    Ok(())
-}
-
-// What `check` answers over the log of one put where one call of the device fails.
-fn checked<R: Threads + Wait + Sync>(
-    rt: &R,
-    alloc: Global,
-    sink: &mut MemSink,
-    number: u64,
-) -> Result<Done<MemDisk>, Fail> {
-    let mut source = MemSource::new(alloc, b"", 7, &[1])?;
-    let mut log = MemDisk::new(alloc, &one_put(), &[number])?;
-    log.room(258, 7)?;
-    call(rt, alloc, &["check"], &mut source, sink, log, &OpenGate)
-}
-
-#[test]
-fn a_device_fails(rt: HostRuntime) -> Result<(), Fail> {
     let alloc = rt.alloc();
-    let which = Which::Log;
-    let mut last = 0;
-    for number in 1..20 {
-        let mut sink = MemSink::new(alloc, 1000, 1000, &[])?;
-        let done = checked(&rt, alloc, &mut sink, number)?;
-        if done.status == Status::Fine {
-            break;
-        }
-        assert!(rt; done.status == Status::Device { which } && done.log.faults() == 1);
-        assert_eq!(rt; sink.taken(), b"hyder: device log\n".as_slice());
-        last = number;
+    for command in ["recover", "check"] {
+        let log = roomy(alloc, &one_entry(1, &out_of_order))?;
+        let wanted = refused(1, b"hyder: log entry 1 order\n");
+        looked(&rt, alloc, command, log, wanted)?;
+        let log = roomy(alloc, &one_entry(2, &ahead))?;
+        let wanted = refused(1, b"hyder: log entry 1 snap\n");
+        looked(&rt, alloc, command, log, wanted)?;
     }
-    assert!(rt; last > 2 && last < 19);
     Ok(())
 }

@@ -1,12 +1,16 @@
-//! Runs over a device that fails, and what a crash then leaves.
+//! Calls in which a source, a sink or a device fails at each of its calls in turn, and what a crash then leaves.
 ghost use Rattle.std.specs.Prelude.{◌≤◌};
 
-use crate::calls::{Answer, RUN, ask, empty, fine, told};
-use crate::logs::{DUMP, NO_CLIENT, NONE, ONE_PUT};
+use crate::calls::{Answer, RUN, ask, call, call_on, empty, fine, is_answered, roomy, told};
+use crate::logs::{DUMP, NO_CLIENT, NONE, ONE_PUT, one_put};
+use crate::points::{Devices, FIRST};
+use crate::simulations::{SHORT_PUT, TWO_SUMS, TWO_SUMS_OUT, simulated_on};
 use hy_base::Pos;
 use hy_disk::Tuned;
+use hy_io::{MemSink, MemSource};
 use hy_mem::MemDisk;
-use hy_run::{Status, Which};
+use hy_pipe::OpenGate;
+use hy_run::{Done, Status};
 use std::alloc::Global;
 use std::sync::Wait;
 use std::test::Fail;
@@ -16,6 +20,265 @@ const NO_CLIENT_AFTER_PUT: &[u8] = b"trace 0\nserver 1 at 1 rows 1\nrow 1 a by 1
 
 const THREE_CLIENTS: &[u8] =
     b"shape 2 1 20\nservers 2\nclient 1\nbegin\nput 1 a\nend\nbegin\nadd 7 1\nend\nclient 2\nbegin\nadd 7 1\nend\nbegin\nget 7\nend\nclient 1\nbegin\ndel 1\nend\nbegin\nput 2 b\nend\n";
+
+// A call that was refused, with no entry in its log, and its line.
+fn refused(number: u8, text: &[u8]) -> Answer<'_> {
+    Answer {
+        number,
+        acked: 0,
+        text,
+    }
+}
+
+// A simulated run whose source, in pieces of this length, fails at a call. It tells whether the source wasn't called so often.
+fn source_fails<R: Threads + Wait + Sync>(
+    rt: &R,
+    alloc: Global,
+    most: usize,
+    number: u64,
+) -> Result<bool, Fail> {
+    let mut source = MemSource::new(alloc, TWO_SUMS, most.max(1), &[number])?;
+    let mut sink = MemSink::new(alloc, 1000, 1000, &[])?;
+    let done = simulated_on(rt, alloc, &["sim"], &mut source, &mut sink)?;
+    if is_answered(&done, &sink, fine(0, TWO_SUMS_OUT)) {
+        return Ok(true);
+    }
+    if !is_answered(&done, &sink, refused(3, b"hyder: source\n")) {
+        return Err("the source failed")?;
+    }
+    Ok(false)
+}
+
+// The same of its sink, which has the pieces before.
+fn sink_fails<R: Threads + Wait + Sync>(
+    rt: &R,
+    alloc: Global,
+    most: usize,
+    number: u64,
+) -> Result<bool, Fail> {
+    let mut source = MemSource::new(alloc, TWO_SUMS, 7, &[])?;
+    let mut sink = MemSink::new(alloc, 1000, most.max(1), &[number])?;
+    let done = simulated_on(rt, alloc, &["sim"], &mut source, &mut sink)?;
+    if is_answered(&done, &sink, fine(0, TWO_SUMS_OUT)) {
+        return Ok(true);
+    }
+    let taken = most.saturating_mul(number.saturating_sub(1) as usize);
+    let Some(before) = TWO_SUMS_OUT.get(..taken) else {
+        return Err("no such piece")?;
+    };
+    if !is_answered(&done, &sink, refused(4, before)) {
+        return Err("the sink failed")?;
+    }
+    Ok(false)
+}
+
+#[test]
+fn a_source_and_a_sink_fail_at_each_call(rt: HostRuntime) -> Result<(), Fail> {
+    let alloc = rt.alloc();
+    let (mut sources, mut sinks) = (0u32, 0u32);
+    for most in 1..17 {
+        for number in 1..1000 {
+            if source_fails(&rt, alloc, most, number)? {
+                break;
+            }
+            sources = sources.wrapping_add(1);
+        }
+        for number in 1..1000 {
+            if sink_fails(&rt, alloc, most, number)? {
+                break;
+            }
+            sinks = sinks.wrapping_add(1);
+        }
+    }
+    println!(rt; "{sources} failing sources, {sinks} failing sinks")?;
+    assert!(rt; sources > 300 && sinks > 300);
+    Ok(())
+}
+
+// A line that can't be written changes no answer.
+#[test]
+fn a_sink_of_a_refusal_fails(rt: HostRuntime) -> Result<(), Fail> {
+    let alloc = rt.alloc();
+    let mut source = MemSource::new(alloc, SHORT_PUT, 7, &[])?;
+    let mut sink = MemSink::new(alloc, 1000, 10, &[2])?;
+    let done = simulated_on(&rt, alloc, &["sim"], &mut source, &mut sink)?;
+    assert!(rt; is_answered(&done, &sink, refused(2, b"hyder: scr")));
+    Ok(())
+}
+
+// What `check` answers over the log of one put where one call of the device fails.
+fn checked<R: Threads + Wait + Sync>(
+    rt: &R,
+    alloc: Global,
+    sink: &mut MemSink,
+    number: u64,
+) -> Result<Done<MemDisk>, Fail> {
+    let mut source = MemSource::new(alloc, b"", 7, &[1])?;
+    let mut log = MemDisk::new(alloc, &one_put(), &[number])?;
+    log.room(258, 7)?;
+    call(rt, alloc, &["check"], &mut source, sink, log, &OpenGate)
+}
+
+#[test]
+fn a_device_fails_under_check(rt: HostRuntime) -> Result<(), Fail> {
+    let alloc = rt.alloc();
+    let mut last = 0;
+    for number in 1..20 {
+        let mut sink = MemSink::new(alloc, 1000, 1000, &[])?;
+        let done = checked(&rt, alloc, &mut sink, number)?;
+        if done.status == Status::Fine {
+            break;
+        }
+        assert!(rt; done.status.number() == 5);
+        assert_eq!(rt; sink.taken(), b"hyder: device log\n".as_slice());
+        last = number;
+    }
+    assert!(rt; last > 2 && last < 19);
+    Ok(())
+}
+
+// A device with ample room. Where it is to fail, it does so at its call of this number, or at that and all later ones.
+fn planned(alloc: Global, number: u64, is_last: bool) -> Result<MemDisk, Fail> {
+    let mut disk = if is_last {
+        MemDisk::fused(alloc, b"", number.saturating_sub(1))?
+    } else {
+        MemDisk::new(alloc, b"", &[number])?
+    };
+    disk.room(65536, 200)?;
+    Ok(disk)
+}
+
+// The devices of a log and of its point, of which one fails so.
+fn one_planned(alloc: Global, of_log: bool, number: u64, is_last: bool) -> Result<Devices, Fail> {
+    let one = planned(alloc, number, is_last)?;
+    let other = empty(alloc)?;
+    Ok(if of_log { (one, other) } else { (other, one) })
+}
+
+// A run that saves its point, over these devices. It ends well, or with this line.
+fn saving<R: Threads + Wait + Sync>(
+    rt: &R,
+    alloc: Global,
+    devices: Devices,
+    line: &[u8],
+) -> Result<Done<MemDisk>, Fail> {
+    let mut source = MemSource::new(alloc, FIRST, 1000, &[])?;
+    let mut sink = MemSink::new(alloc, 1000, 1000, &[])?;
+    let asked = ["run", "--save"];
+    let done = call_on(
+        rt,
+        alloc,
+        &asked,
+        &mut source,
+        &mut sink,
+        devices,
+        &OpenGate,
+    )?;
+    let number = done.status.number();
+    if number != 0 && (number != 5 || sink.taken() != line) {
+        return Err("a device failed")?;
+    }
+    Ok(done)
+}
+
+// What a run without an entry of its own writes over a log and a point.
+fn looked<R: Threads + Wait + Sync>(
+    rt: &R,
+    alloc: Global,
+    asked: &[&str],
+    log: &[u8],
+    points: &[u8],
+) -> Result<MemSink, Fail> {
+    let mut source = MemSource::new(alloc, GET, 1000, &[])?;
+    let mut sink = MemSink::new(alloc, 1000, 1000, &[])?;
+    let devices = (roomy(alloc, log)?, roomy(alloc, points)?);
+    let done = call_on(rt, alloc, asked, &mut source, &mut sink, devices, &OpenGate)?;
+    if done.status != Status::Fine {
+        return Err("what a crash left is refused")?;
+    }
+    Ok(sink)
+}
+
+const GET: &[u8] = b"shape 2 2 8\nservers 1\nclient 1\nbegin\nget 1\nend\n";
+
+// What a crash leaves of a run that saves: the entries that were acknowledged, and perhaps one batch more, which here is one
+// entry; and a point from which a run comes to the same as from the start.
+fn is_left_whole<R: Threads + Wait + Sync>(
+    rt: &R,
+    alloc: Global,
+    devices: Devices,
+    line: &[u8],
+    pattern: u8,
+) -> Result<bool, Fail>
+    requires { pattern ≤ 2 }
+{
+    let Done {
+        status,
+        log,
+        points,
+        acked,
+    } = saving(rt, alloc, devices, line)?;
+    let (log, points) = (log.stop(pattern), points.stop(pattern));
+    let from_point = looked(rt, alloc, &["run", "--point"], log.bytes(), points.bytes())?;
+    let from_start = looked(rt, alloc, &["run"], log.bytes(), points.bytes())?;
+    if from_point.taken() != from_start.taken() {
+        return Err("a point leads elsewhere")?;
+    }
+    let (done, _) = ask(rt, alloc, &["recover"], b"", log)?;
+    if done.acked != acked && done.acked.checked_sub(1) != Some(acked) {
+        return Err("an acknowledged entry is lost")?;
+    }
+    Ok(status == Status::Fine)
+}
+
+#[test]
+fn each_device_fails_at_each_call_of_a_run_that_saves(rt: HostRuntime) -> Result<(), Fail> {
+    let alloc = rt.alloc();
+    let rows: [(bool, &[u8]); 2] = [
+        (true, b"hyder: device log\n"),
+        (false, b"hyder: device points\n"),
+    ];
+    let mut cases = 0u32;
+    for (of_log, line) in rows {
+        let mut is_fine = false;
+        for number in 1..100 {
+            let devices = one_planned(alloc, of_log, number, false)?;
+            if saving(&rt, alloc, devices, line)?.status == Status::Fine {
+                is_fine = true;
+                break;
+            }
+            cases = cases.wrapping_add(1);
+        }
+        assert!(rt; is_fine);
+    }
+    println!(rt; "{cases} failing calls of a device")?;
+    assert!(rt; cases > 20);
+    Ok(())
+}
+
+#[test]
+fn a_device_fails_for_good_and_a_crash_follows(rt: HostRuntime) -> Result<(), Fail> {
+    let alloc = rt.alloc();
+    let rows: [(bool, &[u8]); 2] = [
+        (true, b"hyder: device log\n"),
+        (false, b"hyder: device points\n"),
+    ];
+    let mut cases = 0u32;
+    for (of_log, line) in rows {
+        for pattern in 0..3 {
+            for number in 1..100 {
+                let devices = one_planned(alloc, of_log, number, true)?;
+                if is_left_whole(&rt, alloc, devices, line, pattern)? {
+                    break;
+                }
+                cases = cases.wrapping_add(1);
+            }
+        }
+    }
+    println!(rt; "{cases} crashes after a device failed for good")?;
+    assert!(rt; cases > 60);
+    Ok(())
+}
 
 // An empty device that fails in its k-th write or sync.
 fn failing(alloc: Global, k: u64) -> Result<MemDisk, Fail>
@@ -30,12 +293,6 @@ fn failing(alloc: Global, k: u64) -> Result<MemDisk, Fail>
 fn struck<R: Threads + Wait + Sync>(rt: &R, alloc: Global, k: u64) -> Result<MemDisk, Fail>
     requires { 1 ≤ k }
 {
-    let which = Which::Log;
-    let wanted = Answer {
-        status: Status::Device { which },
-        acked: 0,
-        text: b"hyder: device log\n",
-    };
     told(
         rt,
         alloc,
@@ -43,16 +300,17 @@ fn struck<R: Threads + Wait + Sync>(rt: &R, alloc: Global, k: u64) -> Result<Mem
         RUN,
         ONE_PUT,
         failing(alloc, k)?,
-        wanted,
+        refused(5, b"hyder: device log\n"),
     )
 }
 
-// The header takes seven writes and syncs, and the record four: it, a sync, its gate, a sync.
+// The header takes seven writes and syncs, of which the first is a sync, and the record four: it, a sync, its gate, a sync.
 #[test]
 fn each_write_and_sync_fails(rt: HostRuntime) -> Result<(), Fail> {
     let alloc = rt.alloc();
     for k in 1..12 {
-        struck(&rt, alloc, k)?;
+        let log = struck(&rt, alloc, k)?;
+        assert!(rt; k > 1 || log.bytes().is_empty());
     }
     let (done, _) = ask(&rt, alloc, RUN, ONE_PUT, failing(alloc, 12)?)?;
     assert_eq!(rt; done.status, Status::Fine);
@@ -95,10 +353,7 @@ fn crashed<R: Threads + Wait + Sync>(
     requires pattern { pattern ≤ 2 }
 {
     let (done, sink) = ask(rt, alloc, RUN, THREE_CLIENTS, failing(alloc, k)?)?;
-    let which = Which::Log;
-    if done.status != (Status::Device { which })
-        || sink.taken() != b"hyder: device log\n".as_slice()
-    {
+    if done.status.number() != 5 || sink.taken() != b"hyder: device log\n".as_slice() {
         return Err("the device failed")?;
     }
     let acked = done.acked;

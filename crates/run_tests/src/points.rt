@@ -1,17 +1,16 @@
 //! Runs that save a point, that begin from one, and points that are refused.
-use crate::calls::{Answer, call_on, empty, fine, roomy};
-use hy_formats::Damage;
+use crate::calls::{Answer, call_on, empty, fine, is_answered};
+use crate::damage::damaged;
 use hy_io::{MemSink, MemSource};
 use hy_mem::MemDisk;
 use hy_pipe::OpenGate;
-use hy_run::Status;
 use std::alloc::Global;
 use std::sync::Wait;
 use std::test::Fail;
 use std::thread::Threads;
 
 // The device of a log, and that of its saved point.
-type Devices = (MemDisk, MemDisk);
+pub type Devices = (MemDisk, MemDisk);
 
 /// A call over both devices, which has to answer and to write this. It answers the devices; the error says what the call
 /// shows.
@@ -27,14 +26,13 @@ fn told<R: Threads + Wait + Sync>(
     let mut source = MemSource::new(alloc, script, 1000, &[])?;
     let mut sink = MemSink::new(alloc, 1000, 1000, &[])?;
     let done = call_on(rt, alloc, asked, &mut source, &mut sink, devices, &OpenGate)?;
-    let is_answered = done.status == wanted.status && done.acked == wanted.acked;
-    if !is_answered || sink.taken() != wanted.text {
+    if !is_answered(&done, &sink, wanted) {
         return Err(what)?;
     }
     Ok((done.log, done.points))
 }
 
-const FIRST: &[u8] = b"shape 2 2 8\nservers 1\nclient 1\nbegin\nput 1 a\nend\n";
+pub const FIRST: &[u8] = b"shape 2 2 8\nservers 1\nclient 1\nbegin\nput 1 a\nend\n";
 
 const FIRST_OUT: &[u8] =
     b"trace 4\nb 1\na 1\np 1\nr 1 2\nprogram 1 1\nok\nat 1 commit\nserver 1 at 2 rows 1\nrow 1 a by 1\n";
@@ -106,47 +104,51 @@ fn a_run_begins_from_a_point(rt: HostRuntime) -> Result<(), Fail> {
     Ok(())
 }
 
-// Points that are refused: what was done to the byte at a place, and what is told.
-const REFUSED: [(usize, u8, u64, Damage, &[u8]); 4] = [
-    (9, 1, 9, Damage::Shape, b"hyder: point byte 9 shape\n"),
-    (15, 4, 15, Damage::Base, b"hyder: point byte 15 base\n"),
-    (28, 2, 28, Damage::Flag, b"hyder: point byte 28 flag\n"),
-    (100, 1, 29, Damage::Fill, b"hyder: point byte 29 fill\n"),
+// Damages of the point after the first run, each by the byte that is changed, and the line of its refusal.
+const REFUSED: [(usize, u8, &[u8]); 8] = [
+    (1, 248, b"hyder: point byte 1 short\n"),
+    (1, 19, b"hyder: point byte 28 short\n"),
+    (1, 21, b"hyder: point byte 29 long\n"),
+    (9, 1, b"hyder: point byte 9 shape\n"),
+    (11, 3, b"hyder: point byte 11 position\n"),
+    (15, 1, b"hyder: point byte 15 base\n"),
+    (28, 2, b"hyder: point byte 28 flag\n"),
+    (100, 1, b"hyder: point byte 29 fill\n"),
 ];
 
-// The bytes of a point, of which one was changed.
-fn damaged(alloc: Global, place: usize, byte: u8) -> Result<MemDisk, Fail> {
-    let mut bytes = POINT.to_vec(alloc)?;
-    bytes.resize(256, 0)?;
-    if let Some(at) = bytes.get_mut(place) {
-        *at = byte;
+// The second run from a damaged point, of which so many bytes are left.
+fn from_damaged<R: Threads + Wait + Sync>(
+    rt: &R,
+    alloc: Global,
+    left: usize,
+    changes: &[(usize, u8)],
+    wanted: Answer<'_>,
+) -> Result<(), Fail> {
+    let (log, points) = saved(rt, alloc)?;
+    let points = damaged(alloc, points.bytes(), left, changes)?;
+    let bytes = points.bytes().to_vec(alloc)?;
+    let what = "a damaged point";
+    let asked = ["run", "--point"];
+    let (_, points) = told(rt, alloc, what, &asked, SECOND, (log, points), wanted)?;
+    if points.bytes() != bytes.as_slice() {
+        return Err("the point's device was written to")?;
     }
-    Ok(roomy(alloc, &bytes)?)
+    Ok(())
 }
 
 #[test]
 fn a_damaged_point_is_refused(rt: HostRuntime) -> Result<(), Fail> {
     let alloc = rt.alloc();
-    for (at, byte, place, why, text) in REFUSED {
-        let (log, _) = saved(&rt, alloc)?;
+    for (at, byte, text) in REFUSED {
         let wanted = Answer {
-            status: Status::Point { place, why },
+            number: 8,
             acked: 2,
             text,
         };
-        let devices = (log, damaged(alloc, at, byte)?);
-        let (_, points) = told(
-            &rt,
-            alloc,
-            "a damaged point",
-            &["run", "--point"],
-            SECOND,
-            devices,
-            wanted,
-        )?;
-        assert_eq!(rt; points.bytes().get(at).copied(), Some(byte));
+        from_damaged(&rt, alloc, 256, &[(at, byte)], wanted)?;
     }
-    Ok(())
+    // A device that ends before its page has no point.
+    from_damaged(&rt, alloc, 255, &[], fine(4, SECOND_OUT))
 }
 
 #[test]
@@ -154,7 +156,7 @@ fn a_point_is_ahead_of_the_log(rt: HostRuntime) -> Result<(), Fail> {
     let alloc = rt.alloc();
     let (_, points) = saved(&rt, alloc)?;
     let wanted = Answer {
-        status: Status::Ahead { point: 2, log: 0 },
+        number: 8,
         acked: 0,
         text: b"hyder: point 2 log 0\n",
     };

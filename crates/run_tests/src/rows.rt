@@ -2,7 +2,6 @@
 use crate::calls::{Answer, RUN, ask, call, empty, fine, roomy, told};
 use crate::logs::{DUMP, one_entry, one_put};
 use hy_base::Shape;
-use hy_formats::{Damage, LogPlace};
 use hy_io::{MemSink, MemSource};
 use hy_log::open_log;
 use hy_mem::MemDisk;
@@ -102,10 +101,8 @@ fn an_appended_entry_is_out_of_order(rt: HostRuntime) -> Result<(), Fail> {
         1, 1, 1, 0, 0, 0, 0, 2, 0, 1, 9, 0, 0, 0, 0, 0, 0, 0, 4, 0, 0, 0, 0, 0, 0, 0, 1, 0, 0, 0,
         0, 0, 0, 0, 0,
     ];
-    let place = LogPlace::Entry(1);
-    let why = Damage::Order;
     let wanted = Answer {
-        status: Status::Log { place, why },
+        number: 6,
         acked: 1,
         text: b"hyder: log entry 1 order\n",
     };

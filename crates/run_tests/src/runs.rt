@@ -1,11 +1,11 @@
 //! Calls of `run`, and what they leave for the next one, for `recover` and for `check`.
 use crate::calls::{Answer, RUN, ask, call, empty, fine, roomy, told};
 use crate::logs::{CHECK, DUMP, NO_CLIENT, ONE_PUT, one_put};
-use hy_base::{Field, Pos};
+use hy_base::Pos;
 use hy_io::{MemSink, MemSource};
 use hy_mem::MemDisk;
 use hy_pipe::{Gate, OpenGate};
-use hy_run::{Status, Why};
+use hy_run::Status;
 use std::alloc::Global;
 use std::sync::Wait;
 use std::sync::atomic::{AtomicU32, Ordering};
@@ -181,32 +181,23 @@ fn a_run_goes_on_from_the_log_that_it_finds(rt: HostRuntime) -> Result<(), Fail>
 #[test]
 fn another_shape_is_refused(rt: HostRuntime) -> Result<(), Fail> {
     let alloc = rt.alloc();
-    let rows: [(&[u8], Field, Pos, Pos, &[u8]); 3] = [
+    let rows: [(&[u8], &[u8]); 3] = [
         (
             b"shape 4 1 16\nservers 1\n",
-            Field::Group,
-            2,
-            4,
             b"hyder: config group log 2 script 4\n",
         ),
         (
             b"shape 2 3 10\nservers 1\n",
-            Field::Window,
-            2,
-            3,
             b"hyder: config window log 2 script 3\n",
         ),
         (
             b"shape 2 2 10\nservers 1\n",
-            Field::Cap,
-            8,
-            10,
             b"hyder: config cap log 8 script 10\n",
         ),
     ];
-    for (script, field, log, asked, text) in rows {
+    for (script, text) in rows {
         let wanted = Answer {
-            status: Status::Config { field, log, asked },
+            number: 7,
             acked: 0,
             text,
         };
@@ -234,10 +225,7 @@ fn a_script_with_a_schedule_is_refused(rt: HostRuntime) -> Result<(), Fail> {
     let alloc = rt.alloc();
     let script: &[u8] = b"shape 1 1 8\nservers 1\nschedule\n";
     let wanted = Answer {
-        status: Status::Script {
-            line: 3,
-            why: Why::Word,
-        },
+        number: 2,
         acked: 0,
         text: b"hyder: script line 3 word\n",
     };
