@@ -81,6 +81,12 @@ fn look_on<D: Disk, R: Wait>(
     hub.look(rt, pass, server)
 }
 
+// Whether the whole groups reach a position.
+fn reaches(look: &Backlog, at: Pos) -> bool {
+    let past = at.saturating_sub(look.roller.at());
+    past as usize <= look.entries.as_slice().len()
+}
+
 // Puts the server's board on to a roller's position, where it isn't that far.
 fn publish<D: Disk, R: Wait>(
     rt: &R,
@@ -105,8 +111,8 @@ fn publish<D: Disk, R: Wait>(
     }
 }
 
-// A server completes the last group, and publishes the log up to its end. It rolls nothing where another task has published up
-// to the client's last entry meanwhile; so it doesn't where nothing is left to publish.
+// A server completes the group of the client's last entry, where it isn't whole, and publishes all whole groups. It rolls nothing
+// where another task has published up to that entry meanwhile; so it doesn't where nothing is left to publish.
 pub(crate) fn catch_up<D: Disk, R: Threads + Wait + Sync, G: Gate + Sync>(
     rt: &R,
     alloc: Global,
@@ -124,8 +130,11 @@ pub(crate) fn catch_up<D: Disk, R: Threads + Wait + Sync, G: Gate + Sync>(
     ensures pass { IsRunPass hub.now script.now pass.new }
     ensures goes { (client : ℕ) → GoesOn client pass.old pass.new [] }
 {
-    complete_group(rt, script, hub, pass, server)?;
-    let look = look_on(rt, script, hub, pass, server)?;
+    let mut look = look_on(rt, script, hub, pass, server)?;
+    if !reaches(&look, last) {
+        complete_group(rt, script, hub, pass, server)?;
+        look = look_on(rt, script, hub, pass, server)?;
+    }
     if last <= look.roller.at() {
         return Ok(());
     }
