@@ -11,7 +11,7 @@ use Rattle.hy_base.specs.Script.{Workload}
 use Rattle.hy_hist.specs.Passes.{Lock, Known}
 use Rattle.hy_rolling.specs.Rolling.{Roll, rolled_upto}
 use Rattle.hy_hub.specs.declared.mark.Occurrence.{Occurrence}
-use Rattle.hy_hub.specs.declared.mark.Occurrence.TheVariants.{Happened, Halted, Lifted, Landed}
+use Rattle.hy_hub.specs.declared.mark.Occurrence.TheVariants.{Happened, Halted}
 use Rattle.hy_hub.specs.declared.mark.Begun.{Begun}
 use Rattle.hy_hub.specs.declared.mark.Backlog.{Backlog}
 use Rattle.hy_hub.specs.declared.mark.BeginRefusal.{BeginRefusal}

@@ -1,5 +1,5 @@
 -- Answers by their kind.
-use Rattle.std.proofs.Common.{◌≡◌, ℕ, refl, sym, subst, Bool, true, false}
+use Rattle.std.proofs.Common.{◌≡◌, ℕ, refl, sym, subst, false}
 use Rattle.hy_script.specs.declared.why.Why.{Why}
 use Rattle.hy_run.specs.Output.{AnswerKind, IsFault, by_kind, is_before_log, kind_of, log_refused}
 use Rattle.hy_run.specs.declared.status.Status.{Status}

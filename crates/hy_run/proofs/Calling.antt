@@ -1,15 +1,14 @@
 -- What becomes of the words of a call.
-use Rattle.std.proofs.Common.{◌≡◌, ◌≢◌, ℕ, ◌≤◌, Bool, true, false, List, [], refl, sym, ◌∙◌, ap, subst, inl, inr, ⊎_elim, arith}
-use Rattle.std.specs.Prelude.{◌⊎◌, Option, Some, None}
+use Rattle.std.proofs.Common.{◌≡◌, ◌≢◌, ℕ, ◌≤◌, Bool, false, List, [], refl, sym, ◌∙◌, subst, inl, inr, ⊎_elim, arith}
+use Rattle.std.specs.Prelude.{◌⊎◌, Option, Some}
 use Rattle.hy_base.specs.Spelling.{Text}
 use Rattle.hy_cli.specs.CommandLine.{line_of, names_command}
-use Rattle.hy_cli.specs.Laws.{LineAsksForItself, WordsAskForOne}
 use Rattle.hy_cli.specs.Matches.{Asks, refuses}
 use Rattle.hy_cli.specs.declared.line.CliError.{CliError}
 use Rattle.hy_cli.specs.declared.line.CliError.TheVariants as cli
 use Rattle.hy_cli.specs.declared.line.Line.{Line}
 use Rattle.hy_disk.specs.Content.{Content, Image}
-use Rattle.hy_run.specs.Answering.{Ends, IsCall, IsObeyed, Means}
+use Rattle.hy_run.specs.Answering.{Ends, IsCall, IsObeyed}
 use Rattle.hy_run.specs.Devices.{Devices, devices_of}
 use Rattle.hy_run.specs.Obeying.{job_of}
 use Rattle.hy_run.specs.Output.{WritesLine, fault_text}

@@ -1,10 +1,9 @@
 -- What a restart leaves for the run that begins with it.
 use Rattle.std.proofs.Common.{◌≡◌, ◌≢◌, ℕ, ◌≤◌, Bool, true, false, IsTrue, List, length, refl, sym, ◌∙◌, ap, subst, inl, inr, ⊎_elim, arith}
-use Rattle.std.specs.Prelude.{◌⊎◌, ◌&&◌, ◌||◌, Option, Some, None, Result, Ok, Err, IfErr}
+use Rattle.std.specs.Prelude.{◌⊎◌, ◌&&◌, ◌||◌, Option, Some, Result, Ok, Err, IfErr}
 use Rattle.hy_base.specs.declared.layout.Shape.{Shape}
 use Rattle.hy_base.specs.declared.record.EntryKind.{EntryKind}
 use Rattle.hy_base.specs.Faults.{Rose}
-use Rattle.hy_base.specs.Spelling.{Text}
 use Rattle.hy_formats.specs.Checkpoint.{Checkpoint}
 use Rattle.hy_rolling.specs.Rolling.{Roll}
 use Rattle.hy_rules.specs.SavedPoints.{IsFit, IsLeftBySave}
@@ -19,7 +18,6 @@ use Rattle.hy_restart.specs.Restart.{AreFoundIn, IsRestarted, IsSameLog, IsStart
 use Rattle.hy_restart.proofs.Looks.{reads_then}
 use Rattle.hy_restart.proofs.Saves.{left_same}
 use Rattle.hy_run.specs.Devices.{FaultCounts}
-use Rattle.hy_run.specs.Output.{is_before_log, kind_of, may_be_saved}
 use Rattle.hy_run.specs.Running.{HasFailed, IsSavingFrom, LeavesPoint, restart_refused}
 use Rattle.hy_run.specs.RunningParts.{IsRanFault, IsSavingPart, OpenedDevices, opened_as, restart_fault}
 use Rattle.hy_run.specs.declared.status.RunOptions.{RunOptions}

@@ -1,9 +1,9 @@
 -- On which line a source is refused_at whose events are tried: on line 0 only where it has too many bytes.
-use Rattle.std.proofs.Common.{arith, ◌≡◌, ℕ, zero, suc, ◌+◌, ◌<◌, ◌≤◌, Bool, true, false, nat_lt, not, if◌then◌else◌, ltb-true, List, [], ◌∷◌, length, map, drop, filter, refl, sym, subst}
-use Rattle.std.specs.Prelude.{Option, None, Some, Result, Ok, Err, IfSome, get_or, option_map, ⊤}
+use Rattle.std.proofs.Common.{arith, ◌≡◌, ℕ, zero, suc, ◌+◌, ◌<◌, ◌≤◌, Bool, if◌then◌else◌, List, [], ◌∷◌, length, refl, subst}
+use Rattle.std.specs.Prelude.{Option, None, Some, IfSome, get_or, option_map, ⊤}
 use Rattle.std.specs.Option.{option_map_or}
 use Rattle.hy_rules.specs.Moves.{State}
-use Rattle.std.specs.List.{AllByRecursion, enumerate_from}
+use Rattle.std.specs.List.{AllByRecursion}
 use Rattle.hy_base.specs.Script.{Workload}
 use Rattle.hy_base.specs.Spelling.{Text}
 use Rattle.hy_base.specs.declared.workload.Event.{Event}

@@ -1,4 +1,4 @@
-use Rattle.std.proofs.Common.{◌≡◌, refl, subst, ◌∙◌}
+use Rattle.std.proofs.Common.{◌≡◌, ◌∙◌}
 use Rattle.hy_run.proofs.Simulating.{enabled_all, disabled_first, ends_all}
 use Rattle.hy_run.proofs.simulate.run_to_end.Goals as goal
 

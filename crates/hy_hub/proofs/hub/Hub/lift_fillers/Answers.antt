@@ -1,7 +1,6 @@
-use Rattle.std.proofs.Common.{rules, ◌≡◌, ◌++◌, List, [], sym, subst, ap, ◌∙◌, false}
+use Rattle.std.proofs.Common.{rules, ◌≡◌, ◌++◌, List, [], sym, subst, ap, ◌∙◌}
 use Rattle.hy_hub.specs.declared.mark.Occurrence.{Occurrence}
 use Rattle.hy_hub.specs.Flights.{PadAdvances}
-use Rattle.hy_hub.proofs.Passing.{some_server}
 use Rattle.hy_hub.proofs.Stepping.{pad_leaves, pad_stepped}
 use Rattle.hy_hub.proofs.hub.Hub.lift_fillers.Goals as goal
 
