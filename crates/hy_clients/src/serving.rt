@@ -87,6 +87,47 @@ fn reaches(look: &Backlog, at: Pos) -> bool {
     past as usize <= look.entries.as_slice().len()
 }
 
+// The same, once the last group is whole.
+fn look_whole<D: Disk, R: Wait>(
+    rt: &R,
+    script: &Script,
+    hub: &Hub<D>,
+    pass: &mut Pass<Contents<D>>,
+    server: u8,
+) -> Result<Backlog, Cut>
+    requires pass { IsRunPass hub.now script.now pass.old }
+    requires server { IsWithin 1 script.now.servers server }
+    ensures pass { IsRunPass hub.now script.now pass.new }
+    ensures goes { (client : ℕ) → GoesOn client pass.old pass.new [] }
+    ensures rolls { IfOk result (λ look. IsRollable pass.new.seen look) }
+{
+    complete_group(rt, script, hub, pass, server)?;
+    let look = look_on(rt, script, hub, pass, server)?;
+    Ok(look)
+}
+
+// The same, where the last group is completed only if the position lies in it.
+fn look_to<D: Disk, R: Wait>(
+    rt: &R,
+    script: &Script,
+    hub: &Hub<D>,
+    pass: &mut Pass<Contents<D>>,
+    server: u8,
+    at: Pos,
+) -> Result<Backlog, Cut>
+    requires pass { IsRunPass hub.now script.now pass.old }
+    requires server { IsWithin 1 script.now.servers server }
+    ensures pass { IsRunPass hub.now script.now pass.new }
+    ensures goes { (client : ℕ) → GoesOn client pass.old pass.new [] }
+    ensures rolls { IfOk result (λ look. IsRollable pass.new.seen look) }
+{
+    let look = look_on(rt, script, hub, pass, server)?;
+    if reaches(&look, at) {
+        return Ok(look);
+    }
+    look_whole(rt, script, hub, pass, server)
+}
+
 // Puts the server's board on to a roller's position, where it isn't that far.
 fn publish<D: Disk, R: Wait>(
     rt: &R,
@@ -111,8 +152,8 @@ fn publish<D: Disk, R: Wait>(
     }
 }
 
-// A server completes the group of the client's last entry, where it isn't whole, and publishes all whole groups. It rolls nothing
-// where another task has published up to that entry meanwhile; so it doesn't where nothing is left to publish.
+// A server publishes the log up to its last whole group, and so up to the client's last entry. It rolls nothing where another
+// task has published up to that entry meanwhile; so it doesn't where nothing is left to publish.
 pub(crate) fn catch_up<D: Disk, R: Threads + Wait + Sync, G: Gate + Sync>(
     rt: &R,
     alloc: Global,
@@ -130,11 +171,7 @@ pub(crate) fn catch_up<D: Disk, R: Threads + Wait + Sync, G: Gate + Sync>(
     ensures pass { IsRunPass hub.now script.now pass.new }
     ensures goes { (client : ℕ) → GoesOn client pass.old pass.new [] }
 {
-    let mut look = look_on(rt, script, hub, pass, server)?;
-    if !reaches(&look, last) {
-        complete_group(rt, script, hub, pass, server)?;
-        look = look_on(rt, script, hub, pass, server)?;
-    }
+    let look = look_to(rt, script, hub, pass, server, last)?;
     if last <= look.roller.at() {
         return Ok(());
     }
