@@ -1,0 +1,59 @@
+//! Where calls wait for the device, or for an event: a place for each client, and one for pads. No clause speaks of it.
+use crossbeam_utils::sync::{EventCount, Key};
+use std::alloc::{AllocError, Global};
+use std::sync::Wait;
+
+/// The place of pads. Those of clients have their numbers.
+pub const PADS: u8 = 0;
+
+/// The places of a hub.
+#[derive(Drop)]
+pub struct Places {
+    places: Vec<EventCount>,
+}
+
+impl Places {
+    /// The places of so many clients. `AllocError` where memory is wanting.
+    pub fn new(alloc: Global, clients: usize) -> Result<Places, AllocError> {
+        let mut places = Vec::new(alloc);
+        places.push(EventCount::new())?;
+        for _client in 0..clients {
+            places.push(EventCount::new())?;
+        }
+        Ok(Places { places })
+    }
+
+    /// Announces that a call may wait. It looks at the hub only then, so that no call from here on is missed.
+    pub fn come(&self, place: u8) -> Option<Key<'_>> {
+        Some(self.places.get(usize::from(place))?.prepare_wait())
+    }
+
+    /// Calls those who wait at a place.
+    pub fn call(&self, place: u8) {
+        if let Some(place) = self.places.get(usize::from(place)) {
+            place.notify_all();
+        }
+    }
+
+    /// Calls those who wait at these places, and all pads.
+    pub fn call_each(&self, places: &[u8]) {
+        self.call(PADS);
+        for place in places {
+            self.call(*place);
+        }
+    }
+
+    /// Calls all who wait.
+    pub fn call_all(&self) {
+        for place in &self.places {
+            place.notify_all();
+        }
+    }
+}
+
+/// Waits until it is called, or not at all where there is no place.
+pub fn stay<R: Wait>(rt: &R, key: Option<Key<'_>>) {
+    if let Some(key) = key {
+        key.wait(rt);
+    }
+}
