@@ -1,10 +1,7 @@
 //! Calls whose text, or what they leave, is told in the documents.
-use crate::calls::{Answer, RUN, ask, call, empty, fine, roomy, told};
+use crate::calls::{RUN, ask, call, empty, fine, roomy, told};
 use crate::logs::{DUMP, one_entry, one_put};
-use hy_base::Shape;
 use hy_io::{MemSink, MemSource};
-use hy_log::open_log;
-use hy_mem::MemDisk;
 use hy_pipe::OpenGate;
 use hy_run::Status;
 use std::alloc::Global;
@@ -73,45 +70,6 @@ fn own_writes_are_no_reads(rt: HostRuntime) -> Result<(), Fail> {
         1, 1, 1, 0, 0, 0, 0, 0, 0, 1, 5, 0, 0, 0, 0, 0, 0, 0, 1, 1, 0, b'a',
     ];
     assert!(rt; log.bytes() == one_entry(1, &body).as_slice());
-    Ok(())
-}
-
-// A log whose one body was appended as it is.
-fn appended(alloc: Global, body: &[u8; 35]) -> Result<MemDisk, Fail> {
-    let shape = Shape {
-        group: 1,
-        window: 1,
-        cap: 8,
-    };
-    let Ok(mut log) = open_log(alloc, empty(alloc)?, Some(shape)) else {
-        return Err("not opened")?;
-    };
-    log.reserve(1)?;
-    let Ok(1) = log.append(body) else {
-        return Err("not appended")?;
-    };
-    Ok(log.close())
-}
-
-// Points 9 and 4, by an append of the log.
-#[test]
-fn an_appended_entry_is_out_of_order(rt: HostRuntime) -> Result<(), Fail> {
-    let alloc = rt.alloc();
-    let body = [
-        1, 1, 1, 0, 0, 0, 0, 2, 0, 1, 9, 0, 0, 0, 0, 0, 0, 0, 4, 0, 0, 0, 0, 0, 0, 0, 1, 0, 0, 0,
-        0, 0, 0, 0, 0,
-    ];
-    let wanted = Answer {
-        number: 6,
-        acked: 1,
-        text: b"hyder: log entry 1 order\n",
-    };
-    let script: &[u8] = b"shape 1 1 8\nservers 1\n";
-    for asked in ["recover", "check", "run"] {
-        let log = appended(alloc, &body)?;
-        let log = told(&rt, alloc, asked, &[asked], script, log, wanted)?;
-        assert!(rt; log.bytes() == one_entry(1, &body).as_slice());
-    }
     Ok(())
 }
 

@@ -1,6 +1,6 @@
 //! Calls of `run`, and what they leave for the next one, for `recover` and for `check`.
 use crate::calls::{Answer, RUN, ask, call, empty, fine, roomy, told};
-use crate::logs::{CHECK, DUMP, NO_CLIENT, ONE_PUT, one_put};
+use crate::logs::{NO_CLIENT, ONE_PUT, one_put};
 use hy_base::Pos;
 use hy_io::{MemSink, MemSource};
 use hy_mem::MemDisk;
@@ -78,50 +78,6 @@ fn the_device_has_the_header_and_the_record(rt: HostRuntime) -> Result<(), Fail>
     assert!(rt; is_without_entries(done.log.bytes()));
     let (done, _) = ask(&rt, alloc, RUN, ONE_PUT, empty(alloc)?)?;
     assert!(rt; done.log.bytes() == one_put().as_slice());
-    Ok(())
-}
-
-#[test]
-fn a_log_that_was_run_is_dumped_and_checked(rt: HostRuntime) -> Result<(), Fail> {
-    let alloc = rt.alloc();
-    let (done, _) = ask(&rt, alloc, RUN, ONE_PUT, empty(alloc)?)?;
-    let log = told(
-        &rt,
-        alloc,
-        "the dump",
-        &["recover"],
-        b"",
-        done.log,
-        fine(1, DUMP),
-    )?;
-    let log = told(
-        &rt,
-        alloc,
-        "the check",
-        &["check"],
-        b"",
-        log,
-        fine(1, CHECK),
-    )?;
-    assert!(rt; log.bytes() == one_put().as_slice());
-    Ok(())
-}
-
-#[test]
-fn an_empty_device_stays_empty(rt: HostRuntime) -> Result<(), Fail> {
-    let alloc = rt.alloc();
-    for command in ["recover", "check"] {
-        let log = told(
-            &rt,
-            alloc,
-            command,
-            &[command],
-            b"",
-            empty(alloc)?,
-            fine(0, b"empty\n"),
-        )?;
-        assert_eq!(rt; log.bytes().len(), 0);
-    }
     Ok(())
 }
 
@@ -272,18 +228,6 @@ fn a_sink_of_a_run_fails(rt: HostRuntime) -> Result<(), Fail> {
     assert!(rt; done.status == Status::Sink && done.acked == 1);
     assert_eq!(rt; sink.taken(), b"trace 3\nb ".as_slice());
     assert!(rt; done.log.bytes() == one_put().as_slice());
-    Ok(())
-}
-
-#[test]
-fn a_source_of_a_run_fails(rt: HostRuntime) -> Result<(), Fail> {
-    let alloc = rt.alloc();
-    let mut source = MemSource::new(alloc, ONE_PUT, 7, &[1])?;
-    let mut sink = MemSink::new(alloc, 1000, 1000, &[])?;
-    let log = roomy(alloc, b"")?;
-    let done = call(&rt, alloc, RUN, &mut source, &mut sink, log, &OpenGate)?;
-    assert!(rt; done.status == Status::Source && done.log.bytes().is_empty());
-    assert_eq!(rt; sink.taken(), b"hyder: source\n".as_slice());
     Ok(())
 }
 
