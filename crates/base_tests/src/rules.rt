@@ -1,5 +1,5 @@
 //! The plain fold, on logs of a few sums.
-ghost use Rattle.std.specs.Prelude.{ℕ, ◌≡◌, ◌⊎◌, IfOk};
+ghost use Rattle.std.specs.Prelude.{ℕ, IfOk};
 ghost use Rattle.hy_base.specs.Limits.{IsClientNumber};
 ghost use Rattle.hy_base.specs.Log.{HasLawfulSnap};
 

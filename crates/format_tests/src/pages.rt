@@ -1,5 +1,4 @@
 //! Pages as bytes, with values counted by hand.
-ghost use Rattle.std.specs.Prelude.{◌≤◌};
 
 use hy_base::Shape;
 use hy_formats::Damage;

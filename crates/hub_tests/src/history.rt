@@ -5,7 +5,7 @@ ghost use Rattle.hub_tests.specs.Desk.{is_away, moves, CountsAt, IsReady};
 ghost use Rattle.hy_hist.specs.Passes.{made, Makes};
 ghost use Rattle.hy_hist.specs.Turns.{AddsItem, Turns};
 
-use hy_hist::{Content, HistLock, Pass};
+use hy_hist::{Guarded, HistLock, Pass};
 use std::alloc::Global;
 use std::marker::Model;
 use std::sync::Wait;
@@ -31,7 +31,7 @@ impl Model for Desk {
     ghost invariant = { λ d. is_none d.tool ≡ is_away d.marks.items };
 }
 
-impl Content for Desk {
+impl Guarded for Desk {
     type Item = Option<u64>;
 
     type Part = u64;

@@ -1,5 +1,5 @@
 //! A list that contracts see as a list, and not as a `Vec` with a capacity and a place in memory.
-ghost use Rattle.std.specs.Prelude.{◌≡◌, [], ◌∷◌, ◌++◌, length, OnOk, OnErr, slice_get};
+ghost use Rattle.std.specs.Prelude.{◌≡◌, [], ◌∷◌, ◌++◌, length, OnOk, OnErr};
 
 use std::alloc::{AllocError, Global};
 use std::marker::Model;

@@ -1,5 +1,5 @@
 //! What stands in the log, how it is judged, and the rows that it leaves.
-ghost use Rattle.std.specs.Prelude.{◌≡◌, ℕ, ◌<◌, ◌≤◌, ◌↔◌, IfOk, IfErr, IsErrOf, IsTrue, Err, length};
+ghost use Rattle.std.specs.Prelude.{◌≡◌, ℕ, ◌<◌, ◌↔◌, IfOk, Err};
 ghost use Rattle.std.specs.List.{list_all};
 ghost use Rattle.hy_base.specs.Value.{IsValue, is_printable, is_value};
 ghost use Rattle.hy_base.specs.Limits.{IsServerNumber};

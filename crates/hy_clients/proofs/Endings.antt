@@ -6,11 +6,10 @@ use Rattle.hy_base.specs.declared.workload.Event.TheVariants.{Begin, Append, End
 use Rattle.hy_base.specs.declared.workload.Session.{Session}
 use Rattle.hy_base.specs.Lists.{nth}
 use Rattle.hy_base.specs.Script.{Workload}
-use Rattle.hy_rules.specs.Moves.{State, after}
+use Rattle.hy_rules.specs.Moves.{State, after, is_stop}
 use Rattle.hy_rules.specs.Runs.{Ended, Ending, ByReading, ByEntryAt, ByFullLog, setting_of as script_setting, begun_snap, ended_by}
 use Rattle.hy_hub.specs.declared.mark.Occurrence.{Occurrence}
 use Rattle.hy_hub.specs.declared.mark.Occurrence.TheVariants.{Opened, Happened, Halted, Lifted, Landed}
-use Rattle.hy_hub.specs.Trace.{is_stop}
 use Rattle.hy_hub.specs.Turns.{is_event_of}
 
 -- the programs that end along the marks, from this state on

@@ -9,10 +9,10 @@ use Rattle.hy_base.specs.declared.workload.Session.{Session}
 use Rattle.hy_base.specs.declared.workload.Phase.TheVariants.{Idle}
 use Rattle.hy_base.specs.Lists.{nth}
 use Rattle.hy_base.specs.Script.{Workload}
-use Rattle.hy_rules.specs.Moves.{Setting, State, opening, fresh_session}
+use Rattle.hy_rules.specs.Moves.{Setting, State, opening, fresh_session, is_stop}
 use Rattle.hy_rules.specs.Runs.{setting_of as script_setting, run}
 use Rattle.hy_hub.specs.declared.mark.Occurrence.{Occurrence}
-use Rattle.hy_hub.specs.Trace.{setting, setting_in, state_after, led, AreMoves, is_stop}
+use Rattle.hy_hub.specs.Trace.{setting, setting_in, state_after, led, AreMoves}
 use Rattle.hy_hub.specs.Hub.{IsHubHistory}
 use Rattle.hy_hub.specs.Calls.{events_in_list}
 use Rattle.hy_base.proofs.NthLemmas.{nth_map}

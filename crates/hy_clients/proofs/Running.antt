@@ -13,11 +13,11 @@ use Rattle.hy_base.specs.declared.workload.Phase.{Phase}
 use Rattle.hy_base.specs.declared.workload.Phase.TheVariants.{Idle}
 use Rattle.hy_base.specs.Lists.{nth}
 use Rattle.hy_base.specs.Script.{Workload}
-use Rattle.hy_rules.specs.Moves.{Setting, State, Moves, after, enabled, is_begun, client_passes}
+use Rattle.hy_rules.specs.Moves.{Setting, State, Moves, after, enabled, is_begun, client_passes, is_stop}
 use Rattle.hy_rules.specs.Runs.{setting_of as script_setting, suits, added as entries, step, run, is_done}
 use Rattle.hy_hub.specs.declared.mark.Occurrence.{Occurrence}
 use Rattle.hy_hub.specs.declared.mark.Occurrence.TheVariants.{Opened, Happened, Halted, Lifted, Landed}
-use Rattle.hy_hub.specs.Trace.{is_stop, led, AreMoves}
+use Rattle.hy_hub.specs.Trace.{led, AreMoves}
 use Rattle.hy_hub.specs.Calls.{events_in_list}
 use Rattle.hy_base.proofs.NthLemmas.{left_of, both}
 use Rattle.hy_clients.specs.Finished.{LeadTo}

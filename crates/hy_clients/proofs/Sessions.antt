@@ -12,8 +12,7 @@ use Rattle.hy_base.specs.declared.workload.Session.{Session}
 use Rattle.hy_base.specs.declared.workload.Phase.{Phase}
 use Rattle.hy_base.specs.declared.workload.Phase.TheVariants.{Idle, Begun}
 use Rattle.hy_base.specs.Lists.{nth, change_nth}
-use Rattle.hy_rules.specs.Moves.{Setting, State, after, is_begun, begun_at, at_next_program, appended, may_begin, board_of, home_server, client_passes}
-use Rattle.hy_hub.specs.Trace.{is_stop}
+use Rattle.hy_rules.specs.Moves.{Setting, State, after, is_begun, begun_at, at_next_program, appended, may_begin, board_of, home_server, client_passes, is_stop}
 use Rattle.hy_hub.specs.Turns.{is_event_of}
 use Rattle.hy_base.proofs.NthLemmas.{left_of}
 

@@ -9,10 +9,10 @@ use Rattle.hy_base.specs.declared.workload.Event.{Event}
 use Rattle.hy_base.specs.declared.workload.Event.TheVariants.{Begin, Append, End, Refuse, Pad, Publish, Stop}
 use Rattle.hy_base.specs.Lists.{nth, change_nth}
 use Rattle.hy_base.specs.Shape.{whole_groups}
-use Rattle.hy_rules.specs.Moves.{Setting, State, after, enabled, board_of, opening, is_declared, ends_whole_group}
+use Rattle.hy_rules.specs.Moves.{Setting, State, after, enabled, board_of, opening, is_declared, ends_whole_group, is_stop}
 use Rattle.hy_hub.specs.declared.mark.Occurrence.{Occurrence}
 use Rattle.hy_hub.specs.declared.mark.Occurrence.TheVariants.{Opened, Happened, Halted, Lifted, Landed}
-use Rattle.hy_hub.specs.Trace.{is_stop, led, AreMoves}
+use Rattle.hy_hub.specs.Trace.{led, AreMoves}
 use Rattle.hy_base.proofs.NthLemmas.{right_of}
 use Rattle.hy_hub.proofs.Turns.{unarmed}
 

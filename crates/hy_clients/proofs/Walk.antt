@@ -11,12 +11,12 @@ use Rattle.hy_base.specs.declared.workload.Phase.{Phase}
 use Rattle.hy_base.specs.declared.workload.Phase.TheVariants.{Idle, Begun}
 use Rattle.hy_base.specs.Lists.{nth}
 use Rattle.hy_base.specs.Script.{Workload}
-use Rattle.hy_rules.specs.Moves.{Setting, State, Moves, opening, after}
+use Rattle.hy_rules.specs.Moves.{Setting, State, Moves, opening, after, is_stop}
 use Rattle.hy_rules.specs.Runs.{setting_of as script_setting, ended_by}
 use Rattle.hy_hub.specs.Origin.{Origin}
 use Rattle.hy_hub.specs.declared.mark.Occurrence.{Occurrence}
 use Rattle.hy_hub.specs.declared.mark.Occurrence.TheVariants.{Opened, Happened, Halted, Lifted, Landed}
-use Rattle.hy_hub.specs.Trace.{is_stop, setting, led, AreMoves, state_after, setting_in}
+use Rattle.hy_hub.specs.Trace.{setting, led, AreMoves, state_after, setting_in}
 use Rattle.hy_hub.specs.Turns.{is_event_of}
 use Rattle.hy_hub.proofs.Told.{led_more}
 use Rattle.hy_clients.specs.declared.answered.Answered.{Answered}

@@ -12,11 +12,10 @@ use Rattle.hy_base.specs.Script.{Workload}
 use Rattle.hy_disk.specs.Content.{Content, Image}
 use Rattle.hy_log.specs.View.{LogView, HoldsUpTo}
 use Rattle.hy_formats.specs.EntryFormat.{spelling}
-use Rattle.hy_rules.specs.Moves.{Setting, State, Moves, after}
+use Rattle.hy_rules.specs.Moves.{Setting, State, Moves, after, is_stop}
 use Rattle.hy_rolling.specs.Rolling.{Roll, rolled_upto, Stands}
 use Rattle.hy_rules.specs.Runs.{setting_of, opening_of, run, is_finished, ended_in, results_at}
 use Rattle.hy_hub.specs.Entries.{IsSoundLog}
-use Rattle.hy_hub.specs.Trace.{is_stop}
 
 -- Each event may happen in its turn, and adds entries that it may add; so they lead from a state to another. What the appended entries hold is left open.
 abbrev pub LeadTo : Setting → State → List Event → State → Type 0

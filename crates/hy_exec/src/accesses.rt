@@ -1,7 +1,6 @@
 //! What a transaction has read and written so far.
 ghost use Rattle.std.specs.Prelude.{◌≡◌, ◌≤◌, ◌<◌, OnOk, OnErr, option_copied, find, length, nat_le, nat_lt, Some, if◌then◌else◌};
 ghost use Rattle.hy_base.specs.Lists.{put};
-ghost use Rattle.hy_base.specs.Entry.{write_before};
 ghost use Rattle.hy_base.specs.Limits.{IsClientNumber, IsServerNumber};
 ghost use Rattle.hy_base.specs.declared.record.EntryKind.TheVariants.{Txn};
 ghost use Rattle.hy_rules.specs.Exec.{no_effects, own_write, with_point, with_span, with_write, intention};

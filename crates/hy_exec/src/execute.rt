@@ -1,5 +1,5 @@
 //! Runs programs.
-ghost use Rattle.std.specs.Prelude.{◌≡◌, ◌≤◌, IfOk, OnOk, OnErr};
+ghost use Rattle.std.specs.Prelude.{◌≡◌, IfOk, OnOk, OnErr};
 ghost use Rattle.hy_base.specs.Limits.{IsClientNumber, IsServerNumber};
 ghost use Rattle.hy_base.specs.Script.{IsCommand, IsProgram};
 ghost use Rattle.hy_rules.specs.History.{pairs_of};

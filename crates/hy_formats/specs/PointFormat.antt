@@ -9,7 +9,7 @@ use Rattle.hy_base.specs.Rows.{Each}
 use Rattle.hy_formats.specs.declared.damage.Damage.TheVariants as damage
 use Rattle.hy_formats.specs.Reading.{Refusal, ◌>>=◌, requiring, number_at, ranged_at, items_at}
 use Rattle.hy_formats.specs.EntryFormat.{value_bytes, key_at, value_at}
-use Rattle.hy_formats.specs.LogFormat.{are_zeros, byte_at}
+use Rattle.hy_formats.specs.LogFormat.{open_gate, are_zeros, byte_at}
 use Rattle.hy_formats.specs.declared.damage.BadPoint.{BadPoint}
 use Rattle.hy_formats.specs.Checkpoint.{Checkpoint, base_behind}
 
@@ -42,7 +42,7 @@ point_rest c = rest_of (body_bytes c)
 
 -- the one spelling of a point
 abbrev pub point_bytes : Checkpoint → List ℕ
-point_bytes c = 71 ∷ point_rest c
+point_bytes c = open_gate ∷ point_rest c
 
 -- What the types of a point's fields keep, so that each number fits its field and each value is one. A law over all points has it as a premise.
 pub record IsStorable (c : Checkpoint) : Type 0 where
@@ -132,7 +132,7 @@ point_in s bytes = do
 
 -- a device with these bytes has a record
 abbrev pub has_point : List ℕ → Bool
-has_point bytes = nat_le 256 (length bytes) && (byte_at bytes 0 == 71)
+has_point bytes = nat_le 256 (length bytes) && (byte_at bytes 0 == open_gate)
 
 -- what a points device holds: nothing, or a point of a log of this shape, or the first field that is refused
 abbrev pub held_point : Shape → List ℕ → Option (Result Checkpoint BadPoint)

@@ -1,6 +1,5 @@
 //! The programs of a load.
-ghost use Rattle.std.specs.Prelude.{◌≡◌, [], ◌+◌, ◌*◌, ◌≤◌, ◌<◌, ◌∷◌, ◌^◌, decimal, map, IfOk};
-ghost use Rattle.std.specs.List.{range_with_len};
+ghost use Rattle.std.specs.Prelude.{◌≡◌, [], ◌+◌, ◌*◌, ◌≤◌, ◌<◌, ◌∷◌, IfOk};
 ghost use Rattle.hy_base.specs.Shape.{IsWithin};
 ghost use Rattle.hy_gen.specs.Rounds.{home};
 ghost use Rattle.hy_gen.specs.Load.{value_numbered, commands_of, programs_of, client_of, program_count};

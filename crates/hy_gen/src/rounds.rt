@@ -2,7 +2,7 @@
 ghost use Rattle.std.specs.Prelude.{◌≡◌, ◌+◌, ◌*◌, ◌^◌, ◌≤◌, ◌<◌, ◌++◌, length, map, get_or, IfOk, OnOk};
 ghost use Rattle.std.specs.List.{range_with_len, flat_map};
 ghost use Rattle.hy_base.specs.Shape.{IsWithin};
-ghost use Rattle.hy_gen.specs.Rounds.{period, home, number_in, is_first, is_last, is_beginning, begin_events, ending, end_events, entry_count, ends, append_count, whole, log_len, pads, publishes, publish_event, events_in, round_count, schedule};
+ghost use Rattle.hy_gen.specs.Rounds.{period, home, number_in, is_beginning, begin_events, ending, end_events, entry_count, ends, append_count, whole, log_len, pads, publishes, publish_event, events_in, round_count, schedule};
 
 use crate::programs::{CLIENTS, SERVERS, home};
 use hy_base::{Event, Pos};

@@ -23,36 +23,36 @@ impl Places {
         Ok(Places { places })
     }
 
-    /// Announces that a call may wait. It looks at the hub only then, so that no call from here on is missed.
-    pub fn come(&self, place: u8) -> Option<Key<'_>> {
+    /// Announces that a call may wait. It looks at the hub only then, so that no notice from here on is missed.
+    pub fn prepare(&self, place: u8) -> Option<Key<'_>> {
         Some(self.places.get(usize::from(place))?.prepare_wait())
     }
 
-    /// Calls those who wait at a place.
-    pub fn call(&self, place: u8) {
+    /// Wakes those who wait at a place.
+    pub fn notify(&self, place: u8) {
         if let Some(place) = self.places.get(usize::from(place)) {
             place.notify_all();
         }
     }
 
-    /// Calls those who wait at these places, and all pads.
-    pub fn call_each(&self, places: &[u8]) {
-        self.call(PADS);
+    /// Wakes those who wait at these places, and all pads.
+    pub fn notify_each(&self, places: &[u8]) {
+        self.notify(PADS);
         for place in places {
-            self.call(*place);
+            self.notify(*place);
         }
     }
 
-    /// Calls all who wait.
-    pub fn call_all(&self) {
+    /// Wakes all who wait.
+    pub fn notify_all(&self) {
         for place in &self.places {
             place.notify_all();
         }
     }
 }
 
-/// Waits until it is called, or not at all where there is no place.
-pub fn stay<R: Wait>(rt: &R, key: Option<Key<'_>>) {
+/// Waits until it is woken, or not at all where there is no place.
+pub fn wait<R: Wait>(rt: &R, key: Option<Key<'_>>) {
     if let Some(key) = key {
         key.wait(rt);
     }

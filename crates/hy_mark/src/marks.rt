@@ -1,5 +1,5 @@
 //! The marks of an intention, and of several.
-ghost use Rattle.std.specs.Prelude.{◌≡◌, ℕ, ◌&&◌, ◌||◌, ◌==◌, [], map, IfOk, OnOk, OnErr};
+ghost use Rattle.std.specs.Prelude.{◌≡◌, ℕ, ◌==◌, [], IfOk, OnOk};
 ghost use Rattle.std.specs.List.{AllByRecursion, list_any};
 ghost use Rattle.hy_base.specs.Entry.{is_in_span};
 ghost use Rattle.hy_base.specs.Rows.{rows_at, newest};

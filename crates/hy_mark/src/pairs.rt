@@ -1,8 +1,8 @@
 //! Marks in the order of their blocks, each block at most once.
-ghost use Rattle.std.specs.Prelude.{◌≡◌, ℕ, ◌+◌, ◌<◌, max, List, [], ◌∷◌, IfOk, OnOk, OnErr, IsTrue, MatchOption, option_map, length};
+ghost use Rattle.std.specs.Prelude.{◌≡◌, ℕ, ◌<◌, max, List, [], ◌∷◌, IfOk, OnOk, OnErr, IsTrue, MatchOption, option_map};
 ghost use Rattle.std.specs.List.{AllByRecursion};
 ghost use Rattle.hy_base.specs.declared.record.Mark.{Mark};
-ghost use Rattle.hy_base.specs.Entry.{span_before, is_in_span};
+ghost use Rattle.hy_base.specs.Entry.{span_before};
 ghost use Rattle.hy_base.specs.Marks.{lesser, dep};
 ghost use Rattle.hy_mark.specs.Blocks.{IsBlock};
 ghost use Rattle.hy_mark.specs.Orders.{IsBefore, AreOrdered, ArePairs, IsFirstBlock};

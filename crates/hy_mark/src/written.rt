@@ -1,5 +1,5 @@
 //! Writes as rows, in the order of their keys, each key at most once.
-ghost use Rattle.std.specs.Prelude.{◌≡◌, ◌+◌, ◌<◌, [], ◌∷◌, IfOk, OnOk, OnErr, IsTrue, MatchOption, length};
+ghost use Rattle.std.specs.Prelude.{◌≡◌, ◌<◌, [], IfOk, OnOk, OnErr, IsTrue, MatchOption};
 ghost use Rattle.std.specs.List.{AllByRecursion};
 ghost use Rattle.hy_base.specs.declared.record.Row.{Row};
 ghost use Rattle.hy_base.specs.Lists.{put};

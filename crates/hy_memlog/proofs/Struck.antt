@@ -10,8 +10,9 @@ use Rattle.hy_disk.specs.Content.{Content}
 use Rattle.hy_disk.specs.Stops.{stopped}
 use Rattle.hy_log.specs.declared.log.AppendError.{AppendError}
 use Rattle.hy_log.specs.declared.log.AppendError.TheVariants as appending
-use Rattle.hy_log.specs.View.{LogView, Holds}
+use Rattle.hy_log.specs.View.{LogView}
 use Rattle.hy_formats.specs.LogFormat.{page_count}
+use Rattle.hy_formats.specs.LogDevice.{Holds}
 use Rattle.hy_mem.specs.declared.memory.MemDisk.{MemDisk}
 use Rattle.hy_mem.specs.MemDisk.{HasRoom, Strikes}
 use Rattle.hy_mem.specs.RoomLaws.{room_shrinks}

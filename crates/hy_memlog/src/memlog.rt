@@ -1,5 +1,5 @@
 //! The log.
-ghost use Rattle.std.specs.Prelude.{◌≡◌, ◌⊎◌, ◌+◌, ◌<◌, ◌≤◌, ◌++◌, [], ◌∷◌, ℕ, List, length, Some, None, IfOk, IfSome, IsErr, OnOk, OnErr, is_none, option_map};
+ghost use Rattle.std.specs.Prelude.{◌≡◌, ◌⊎◌, ◌+◌, ◌<◌, ◌≤◌, [], length, Some, None, IfOk, IfSome, IsErr, OnOk, OnErr, is_none, option_map};
 ghost use Rattle.hy_base.specs.Shape.{IsGoodShape};
 ghost use Rattle.hy_formats.specs.LogFormat.{IsBody};
 ghost use Rattle.hy_memlog.specs.Pages.{Pages, IsStop, with_body, broken_log};

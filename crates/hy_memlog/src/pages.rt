@@ -1,11 +1,11 @@
 //! The page log under it: room before each append, a stop in one, and what is opened then.
-ghost use Rattle.std.specs.Prelude.{◌≡◌, ◌≢◌, ◌+◌, ◌*◌, ◌<◌, ◌≤◌, ◌++◌, [], ◌∷◌, ℕ, List, length, replicate, Ok, Some, None, IfOk, IfErr, OnOk};
+ghost use Rattle.std.specs.Prelude.{◌≡◌, ◌+◌, ◌*◌, ◌<◌, ◌≤◌, ◌++◌, [], ◌∷◌, ℕ, List, length, replicate, Ok, Some, IfOk, IfErr, OnOk};
 ghost use Rattle.hy_base.specs.Shape.{IsGoodShape};
-ghost use Rattle.hy_formats.specs.LogFormat.{IsBody, page_count};
+ghost use Rattle.hy_formats.specs.LogFormat.{IsBody};
+ghost use Rattle.hy_formats.specs.LogDevice.{Holds};
 ghost use Rattle.hy_disk.specs.Strikes.{IsUnarmed};
-ghost use Rattle.hy_mem.specs.MemDisk.{content_of, plan_of, room_of, HasRoom, Strikes};
-ghost use Rattle.hy_log.specs.View.{Holds};
-ghost use Rattle.hy_log.specs.declared.error.OpenError.TheVariants as opening;
+ghost use Rattle.hy_mem.specs.MemDisk.{content_of, HasRoom, Strikes};
+ghost use Rattle.hy_formats.specs.declared.refusal.OpenError.TheVariants as opening;
 ghost use Rattle.hy_memlog.specs.Pages.{IsSteady, HasRoomFor, IsStop, with_body};
 
 use hy_base::{ArmedStop, Shape};

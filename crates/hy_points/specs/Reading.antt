@@ -3,14 +3,14 @@ use Rattle.std.specs.Prelude.{◌≡◌, Result, Ok, Err, ⊤}
 use Rattle.hy_formats.specs.declared.damage.BadPoint.{BadPoint}
 use Rattle.hy_points.specs.declared.error.PointError.{PointError}
 use Rattle.hy_points.specs.declared.error.PointError.TheVariants as pointing
-use Rattle.hy_points.specs.declared.fields.PointHead.{PointHead as HeadRead}
+use Rattle.hy_points.specs.declared.fields.HeadFields.{HeadFields}
 use Rattle.hy_points.specs.declared.fields.Body.{Body}
 use Rattle.hy_base.specs.declared.layout.Shape.{Shape}
 use Rattle.hy_formats.specs.Checkpoint.{Checkpoint}
 use Rattle.hy_formats.specs.PointFormat.{PointHead, checkpoint_by}
 
 -- the head that the code reads, as the format has it
-abbrev pub point_head_of : HeadRead → PointHead
+abbrev pub point_head_of : HeadFields → PointHead
 point_head_of h = record { position = h.position; base = h.base; count = h.count }
 
 -- the body that the code reads, as the format has it

@@ -1,5 +1,5 @@
 //! From bytes to a point.
-ghost use Rattle.std.specs.Prelude.{◌≡◌, ◌+◌, ◌≤◌, ◌-◌, IfOk, Result, Ok, length, take, drop};
+ghost use Rattle.std.specs.Prelude.{◌≡◌, ◌+◌, ◌≤◌, ◌-◌, IfOk, Result, Ok, length};
 ghost use Rattle.hy_base.specs.Rows.{IsOrdered};
 ghost use Rattle.hy_base.specs.Shape.{IsGoodShape};
 ghost use Rattle.hy_formats.specs.LogFormat.{are_zeros, byte_at};

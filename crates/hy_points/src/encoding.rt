@@ -1,5 +1,5 @@
 //! From a point to bytes.
-ghost use Rattle.std.specs.Prelude.{◌≡◌, ◌++◌, ◌<◌, ◌≤◌, ◌^◌, ◌+◌, ◌-◌, ◌∷◌, [], length, take, drop, flat_map, replicate, OnOk, IfOk};
+ghost use Rattle.std.specs.Prelude.{◌≡◌, ◌++◌, ◌<◌, ◌≤◌, ◌^◌, ◌+◌, ◌-◌, length, take, drop, flat_map, replicate, OnOk, IfOk};
 ghost use Rattle.std.specs.Int.{w64, to_le_bytes};
 ghost use Rattle.hy_formats.specs.Checkpoint.{IsCheckpoint};
 ghost use Rattle.hy_tree.specs.TreeRows.{AreRows};
@@ -9,11 +9,9 @@ use crate::point::Point;
 use byteorder::{ByteOrder, LittleEndian};
 use hy_base::Row;
 use hy_codec::{push_u32, push_u64, push_value};
+use hy_formats::OPEN;
 use hy_tree::Tree;
 use std::alloc::{AllocError, Global};
-
-/// The byte of a gate that is open.
-const OPEN: u8 = 0x47;
 
 fn push_row(out: &mut Vec<u8>, row: &Row) -> Result<(), AllocError>
     ensures { OnOk result (out.new.items ≡ out.old.items ++ row_bytes row.now) }

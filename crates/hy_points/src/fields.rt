@@ -1,5 +1,5 @@
 //! A point's body, field by field.
-ghost use Rattle.std.specs.Prelude.{◌≡◌, ◌-◌, ◌≤◌, Option, Bool, IfOk, None};
+ghost use Rattle.std.specs.Prelude.{◌-◌, ◌≤◌, Option, Bool, IfOk, None};
 ghost use Rattle.hy_base.specs.Shape.{IsGoodShape};
 ghost use Rattle.hy_formats.specs.Reading.{items_at};
 ghost use Rattle.hy_codec.specs.Reading.{Gives};
@@ -13,7 +13,7 @@ use std::alloc::Global;
 
 /// The fields before the rows.
 #[derive(Clone, Copy, Debug)]
-pub struct PointHead {
+pub struct HeadFields {
     pub position: Pos,
     pub base: Pos,
     pub count: u64,
@@ -22,7 +22,7 @@ pub struct PointHead {
 /// A whole body.
 #[derive(Debug, Drop)]
 pub struct Body {
-    pub head: PointHead,
+    pub head: HeadFields,
     pub rows: Vec<Row>,
     pub flags: Vec<bool>,
 }
@@ -41,7 +41,7 @@ fn position_at(shape: Shape, bytes: &[u8]) -> Result<(Pos, &[u8]), FieldError>
 }
 
 #[tactic(auto, unfolding(hy_formats::specs::PointFormat::point_head_at))]
-fn point_head_at(shape: Shape, bytes: &[u8]) -> Result<(PointHead, &[u8]), FieldError>
+fn point_head_at(shape: Shape, bytes: &[u8]) -> Result<(HeadFields, &[u8]), FieldError>
     requires { IsGoodShape shape }
     ensures read { Gives (λ x. (point_head_of x.0, x.1.now)) result (point_head_at shape bytes.now) }
 {
@@ -51,7 +51,7 @@ fn point_head_at(shape: Shape, bytes: &[u8]) -> Result<(PointHead, &[u8]), Field
     let expected = shape.base(position / u32::from(shape.group) + 1);
     let (base, rest) = u32_in(rest, expected, expected, Damage::Base)?;
     let (count, rest) = u64_at(rest)?;
-    let head = PointHead {
+    let head = HeadFields {
         position,
         base,
         count,

@@ -11,8 +11,8 @@ use Rattle.hy_formats.specs.Checkpoint.{Checkpoint, IsCheckpoint}
 use Rattle.hy_formats.specs.PointFormat.{IsStorable, body_bytes, point_rest, point_bytes, point_in, has_point, held_point}
 use Rattle.hy_points.proofs.Records.{point_again, point_size, record_is_page}
 use Rattle.hy_log.specs.Gates.{IsGuarded, gate_opened}
-use Rattle.hy_rules.specs.SavedPoints.{IsPointOf, StandsBehind, IsFit, IsLeftBySave}
-use Rattle.hy_restart.specs.Saving.{HoldsPoint, IsBehindGate, IsStoring, IsStored}
+use Rattle.hy_rules.specs.SavedPoints.{IsPointOf, StandsBehind, IsFit, IsLeftBySave, HoldsPoint}
+use Rattle.hy_restart.specs.Saving.{IsBehindGate, IsStoring, IsStored}
 
 both : (a b : Bool) → (a && b) ≡ true → (a ≡ true) × (b ≡ true)
 both true b e = (refl, e)
@@ -64,22 +64,22 @@ module _ (s : Shape) (log : List EntryKind) (c : Checkpoint) where
 
   -- the gate wasn't closed, or no byte was there
   no_bytes : (bytes : List ℕ) → has_zero bytes ≡ false → byte_at bytes 0 ≡ 0 → length bytes ≡ 0
-  no_bytes bytes open_gate zero = grind (arith, open_gate, zero)
+  no_bytes bytes gate_is_open zero = grind (arith, gate_is_open, zero)
 
   left_torn : (seen image : List ℕ) → IsFit s log seen → has_zero seen ≡ false → Torn 0 1 seen image → IsLeftBySave s log c seen image
-  left_torn seen image fit open_gate torn = record { fit = still fit; holds = either s image (λ has. held has fit) }
+  left_torn seen image fit gate_is_open torn = record { fit = still fit; holds = either s image (λ has. held has fit) }
     where
       behind : (old : Checkpoint) → StandsBehind old seen → StandsBehind old image
       behind old stands = record { valid = stands.valid; storable = stands.storable; more = stands.more; spelled = torn.after ∙ stands.spelled }
 
       still : IsFit s log seen → IsFit s log image
       still (inl short) = inl (omega (arith, short, torn.no_longer))
-      still (inr (inl zero)) = inl (omega (arith, no_bytes seen open_gate zero, torn.no_longer))
+      still (inr (inl zero)) = inl (omega (arith, no_bytes seen gate_is_open zero, torn.no_longer))
       still (inr (inr (old, of, stands))) = inr (inr (old, of, behind old stands))
 
       held : HasPoint image → IsFit s log seen → (held_point s image ≡ Some (Ok c)) ⊎ ((old : Checkpoint) × IsPointOf s log old × StandsBehind old seen × (held_point s image ≡ Some (Ok old)))
       held has (inl short) = absurd (omega (arith, short, has.long, torn.no_longer))
-      held has (inr (inl zero)) = absurd (omega (arith, no_bytes seen open_gate zero, has.long, torn.no_longer))
+      held has (inr (inl zero)) = absurd (omega (arith, no_bytes seen gate_is_open zero, has.long, torn.no_longer))
       held has (inr (inr (old, of, stands))) = inr (old, of, stands, held_behind s old image of.shape_is (behind old stands) has.long has.gate)
 
   left_behind : (seen image : List ℕ) → IsPointOf s log c → IsCheckpoint c → IsStorable c → IsBehindGate (point_rest c) image → IsLeftBySave s log c seen image
@@ -95,7 +95,7 @@ module _ (s : Shape) (log : List EntryKind) (c : Checkpoint) where
 
   pub saving_left : (seen image : List ℕ) → IsPointOf s log c → IsCheckpoint c → IsStorable c → IsFit s log seen → IsStoring (point_rest c) seen image → IsLeftBySave s log c seen image
   saving_left seen image of valid storable fit (inl (inl same)) = subst (IsLeftBySave s log c seen) (sym same) (left_same seen fit)
-  saving_left seen image of valid storable fit (inl (inr (open_gate, torn))) = left_torn seen image fit open_gate torn
+  saving_left seen image of valid storable fit (inl (inr (gate_is_open, torn))) = left_torn seen image fit gate_is_open torn
   saving_left seen image of valid storable fit (inr put) = left_behind seen image of valid storable put
 
 -- ---- putting bytes behind a closed gate

@@ -5,9 +5,9 @@ use Rattle.hy_base.specs.declared.layout.Shape.{Shape}
 use Rattle.hy_base.specs.declared.record.EntryKind.{EntryKind}
 use Rattle.hy_formats.specs.Checkpoint.{Checkpoint}
 use Rattle.hy_formats.specs.PointFormat.{held_point}
-use Rattle.hy_restart.specs.declared.error.RestartError.TheVariants as restarting
+use Rattle.hy_formats.specs.Restarting.{as_point, not_ahead}
+use Rattle.hy_formats.specs.declared.refusal.RestartError.TheVariants as restarting
 use Rattle.hy_rules.specs.SavedPoints.{IsPointOf, IsLeftBySave}
-use Rattle.hy_restart.specs.Restart.{as_point, not_ahead}
 use Rattle.hy_restart.specs.Laws.{IsStartable}
 
 in_time : (s : Shape) (log : List EntryKind) (c : Checkpoint) → IsPointOf s log c → not_ahead (length log) (Some c) ≡ Ok (Some c)

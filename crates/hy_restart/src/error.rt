@@ -1,10 +1,8 @@
-//! Why a point isn't saved, and why a log isn't restarted.
+//! Why a point isn't saved.
 ghost use Rattle.std.specs.Prelude.{◌≡◌};
 ghost use Rattle.hy_restart.specs.declared.error.SaveError.TheVariants.{Memory, Device};
-ghost use Rattle.hy_restart.specs.declared.error.RestartError.TheVariants as restarting;
 
-use hy_base::{Failed, Pos};
-use hy_formats::{BadEntry, BadPoint};
+use hy_base::Failed;
 use std::alloc::AllocError;
 use thiserror::Error;
 
@@ -32,36 +30,5 @@ impl From<Failed> for SaveError {
 
     fn from(_: Failed) -> Self {
         SaveError::Device
-    }
-}
-
-/// Why a log isn't restarted.
-#[derive(Clone, Copy, Debug, PartialEq, Eq, Error)]
-pub enum RestartError {
-    /// Out of memory.
-    #[error("out of memory")]
-    Memory,
-    /// The log's device failed.
-    #[error("the log's device failed")]
-    LogDevice,
-    /// The points device failed.
-    #[error("the points device failed")]
-    PointsDevice,
-    /// The body at this position is refused, the first that is: it spells no entry, or one whose snapshot isn't lawful there.
-    #[error("entry {pos} of the log: {bad}")]
-    BadEntry { pos: Pos, bad: BadEntry },
-    /// The saved point is refused.
-    #[error("{0}")]
-    BadPoint(BadPoint),
-    /// The saved point is further than the log: its position, and how many entries there are.
-    #[error("the point is at {point}, and the log at {log}")]
-    Ahead { point: Pos, log: Pos },
-}
-
-impl From<AllocError> for RestartError {
-    ghost from_gives = { λ _ error. error ≡ restarting.Memory };
-
-    fn from(_: AllocError) -> Self {
-        RestartError::Memory
     }
 }

@@ -14,7 +14,8 @@ mod restarting;
 mod roller;
 mod saving;
 
-pub use error::{RestartError, SaveError};
+pub use error::SaveError;
+pub use hy_formats::RestartError;
 pub use laws::{
     a_crash_leaves_a_start, a_fit_device_stays_fit, a_longer_log_keeps_points,
     a_roller_leaves_its_point,

@@ -7,9 +7,9 @@ ghost use Rattle.hy_base.specs.Shape.{IsGoodShape};
 ghost use Rattle.hy_disk.specs.Content.{settled};
 ghost use Rattle.hy_disk.specs.Moments.{LeavesOnly};
 ghost use Rattle.hy_rolling.specs.Rolling.{Stands, rolled_upto, next_base};
-ghost use Rattle.hy_rules.specs.SavedPoints.{IsFit, IsLeftBySave};
+ghost use Rattle.hy_rules.specs.SavedPoints.{IsFit, IsLeftBySave, HoldsPoint};
 ghost use Rattle.hy_pipe.specs.RollerLaws.{IsRoller};
-ghost use Rattle.hy_restart.specs.Saving.{point_of, HoldsPoint};
+ghost use Rattle.hy_restart.specs.Saving.{point_of};
 ghost use Rattle.hy_restart.specs.declared.error.SaveError.TheVariants as saving;
 
 use crate::error::SaveError;

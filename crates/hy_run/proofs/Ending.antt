@@ -1,18 +1,18 @@
 -- How a text that there isn't ends a call.
-use Rattle.std.proofs.Common.{◌≡◌, ◌≢◌, ◌∙◌, ℕ, Bool, true, false, IsTrue, List, refl, sym, ap, inl, inr, ⊎_elim, length}
+use Rattle.std.proofs.Common.{◌≡◌, ◌≢◌, ℕ, Bool, true, false, IsTrue, List, refl, sym, ap, inl, inr, ⊎_elim, length}
 use Rattle.std.specs.Prelude.{◌⊎◌, Option, Some, Result, Ok, Err, IfErr, IsErr}
 use Rattle.hy_base.specs.declared.layout.Shape.{Shape}
 use Rattle.hy_base.specs.Faults.{Rose}
 use Rattle.hy_formats.specs.declared.damage.LogFault.{LogFault}
 use Rattle.hy_formats.specs.declared.damage.LogPlace.TheVariants.{Page}
+use Rattle.hy_formats.specs.Restarting.{restart_in}
 use Rattle.hy_rules.specs.Recovery.{Recovered}
 use Rattle.hy_disk.specs.Content.{Content}
 use Rattle.hy_base.specs.Spelling.{Text}
 use Rattle.hy_base.specs.Script.{Workload}
-use Rattle.hy_log.specs.declared.error.OpenError.{OpenError}
-use Rattle.hy_log.specs.declared.error.OpenError.TheVariants as opening
+use Rattle.hy_formats.specs.declared.refusal.OpenError.{OpenError}
+use Rattle.hy_formats.specs.declared.refusal.OpenError.TheVariants as opening
 use Rattle.hy_run.specs.Inspection.{IsDamaged, IsLogFault, open_fault}
-use Rattle.hy_restart.specs.Restart.{restart_in}
 use Rattle.hy_run.specs.Devices.{FaultCounts, Found}
 use Rattle.hy_run.specs.Running.{HasFailed, IsRunOn, IsSaving, LeavesPoint, restart_refused}
 use Rattle.hy_run.specs.RunningParts.{IsRanFault, IsSavingScript, IsScriptLeft, IsScriptOf, OpenedDevices, opening_status}

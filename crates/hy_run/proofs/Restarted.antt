@@ -1,20 +1,21 @@
 -- What a restart leaves for the run that begins with it.
 use Rattle.std.proofs.Common.{◌≡◌, ◌≢◌, ℕ, ◌≤◌, Bool, true, false, IsTrue, List, length, refl, sym, ◌∙◌, ap, subst, inl, inr, ⊎_elim, arith}
-use Rattle.std.specs.Prelude.{◌⊎◌, ◌&&◌, ◌||◌, Option, Some, Result, Ok, Err, IfErr}
+use Rattle.std.specs.Prelude.{◌⊎◌, ◌||◌, Option, Some, Result, Ok, Err, IfErr}
 use Rattle.hy_base.specs.declared.layout.Shape.{Shape}
 use Rattle.hy_base.specs.declared.record.EntryKind.{EntryKind}
 use Rattle.hy_base.specs.Faults.{Rose}
 use Rattle.hy_formats.specs.Checkpoint.{Checkpoint}
+use Rattle.hy_formats.specs.Restarting.{IsStart, restart_in}
 use Rattle.hy_rolling.specs.Rolling.{Roll}
 use Rattle.hy_rules.specs.SavedPoints.{IsFit, IsLeftBySave}
 use Rattle.hy_disk.specs.Content.{Content, Image, settled}
-use Rattle.hy_disk.specs.Moments.{LeavesOnly}
+use Rattle.hy_disk.specs.Moments.{LeavesOnly, OnlyReads}
 use Rattle.hy_disk.proofs.Images.{image_settled}
 use Rattle.hy_disk.proofs.Moments.{joined, weaker}
 use Rattle.hy_log.specs.View.{LogView}
-use Rattle.hy_restart.specs.declared.error.RestartError.{RestartError}
-use Rattle.hy_restart.specs.declared.error.RestartError.TheVariants as restarting
-use Rattle.hy_restart.specs.Restart.{AreFoundIn, IsRestarted, IsSameLog, IsStart, OnlyReads, RefusesRestart, entries_for, restart_in}
+use Rattle.hy_formats.specs.declared.refusal.RestartError.{RestartError}
+use Rattle.hy_formats.specs.declared.refusal.RestartError.TheVariants as restarting
+use Rattle.hy_restart.specs.Restart.{AreFoundIn, IsRestarted, IsSameLog, RefusesRestart, entries_for}
 use Rattle.hy_restart.proofs.Looks.{reads_then}
 use Rattle.hy_restart.proofs.Saves.{left_same}
 use Rattle.hy_run.specs.Devices.{FaultCounts}

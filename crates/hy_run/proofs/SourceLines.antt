@@ -1,5 +1,5 @@
 -- On which line a source is refused_at whose events are tried: on line 0 only where it has too many bytes.
-use Rattle.std.proofs.Common.{arith, ◌≡◌, ℕ, zero, suc, ◌+◌, ◌<◌, ◌≤◌, Bool, if◌then◌else◌, List, [], ◌∷◌, length, refl, subst}
+use Rattle.std.proofs.Common.{arith, ◌≡◌, ℕ, zero, suc, ◌<◌, ◌≤◌, Bool, List, [], ◌∷◌, length, refl, subst}
 use Rattle.std.specs.Prelude.{Option, None, Some, IfSome, get_or, option_map, ⊤}
 use Rattle.std.specs.Option.{option_map_or}
 use Rattle.hy_rules.specs.Moves.{State}

@@ -1,7 +1,6 @@
 -- On which line a source is refused_at: on line 0 only where it has too many bytes.
-use Rattle.std.proofs.Common.{arith, ◌≡◌, ℕ, zero, suc, ◌+◌, ◌<◌, ◌≤◌, Bool, true, false, nat_lt, not, if◌then◌else◌, ltb-true, List, [], ◌∷◌, length, map, drop, filter, refl, sym, subst}
-use Rattle.std.specs.Prelude.{Option, None, Some, Result, Ok, Err, IfSome, get_or, option_map, ⊤}
-use Rattle.std.specs.Option.{option_map_or}
+use Rattle.std.proofs.Common.{arith, ◌≡◌, ℕ, ◌+◌, ◌<◌, ◌≤◌, Bool, true, false, nat_lt, not, if◌then◌else◌, ltb-true, List, [], ◌∷◌, length, map, drop, filter, refl, subst}
+use Rattle.std.specs.Prelude.{Option, None, Some, Result, Ok, Err, ⊤}
 use Rattle.std.specs.List.{AllByRecursion, enumerate_from}
 use Rattle.hy_base.specs.Script.{Workload}
 use Rattle.hy_base.specs.Spelling.{Text}

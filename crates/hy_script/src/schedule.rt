@@ -1,5 +1,5 @@
 //! Schedules.
-ghost use Rattle.std.specs.Prelude.{◌≡◌, ◌+◌, ◌<◌, ◌^◌, length, IfOk};
+ghost use Rattle.std.specs.Prelude.{◌+◌, ◌<◌, ◌^◌, length, IfOk};
 ghost use Rattle.std.specs.List.{AllByRecursion};
 ghost use Rattle.hy_script.specs.Laws.{IsEventSpellable};
 ghost use Rattle.hy_script.specs.Outcome.{Reads};

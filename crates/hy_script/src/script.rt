@@ -1,13 +1,10 @@
 //! The lines of a script.
-ghost use Rattle.std.specs.Prelude.{◌≡◌, ◌<◌, ◌≤◌, ◌∷◌, [], ⊤, Bool, ℕ, List, Ok, Err, length, if◌then◌else◌, true, false, nat_lt, IfOk};
-ghost use Rattle.hy_base.specs.Script.{Workload, IsCommand, client_count};
+ghost use Rattle.std.specs.Prelude.{◌≡◌, ◌<◌, ℕ, List, Ok, Err, length, if◌then◌else◌, nat_lt, IfOk};
+ghost use Rattle.hy_base.specs.Script.{IsCommand, client_count};
 ghost use Rattle.hy_base.specs.Shape.{IsGoodShape, IsWithin};
-ghost use Rattle.hy_base.specs.Value.{is_value};
 ghost use Rattle.hy_script.specs.Fields.{HasFields, and_then, one_number, two_numbers, three_numbers, no_fields};
-ghost use Rattle.hy_script.specs.Forms.{judged_words, read_line};
-ghost use Rattle.hy_script.specs.Grammar.{AtStart, Shaped, Listing, Programming, forms_at, last_program_count};
-ghost use Rattle.hy_script.specs.Parts.{leading, LeadsTo, after_listing, after_program_line, IsClientListed, IsNextLine};
-ghost use Rattle.hy_script.specs.ScriptFields.{shape_fields, scan_fields, ValueOf, shape_line, servers_line, number_within, client_fields, begin_fields, listing_line, one_more, put_fields, program_line, TellsField};
+ghost use Rattle.hy_script.specs.Parts.{IsClientListed, IsNextLine};
+ghost use Rattle.hy_script.specs.ScriptFields.{shape_fields, scan_fields, ValueOf, shape_line, servers_line, number_within, client_fields, listing_line, one_more, put_fields, program_line, TellsField};
 ghost use Rattle.hy_script.specs.Lines.{words_of};
 ghost use Rattle.hy_base.specs.declared.workload.Command.TheVariants.{Get, Del, Add};
 ghost use Rattle.hy_script.specs.declared.script.ListingLine.TheVariants.{Begin, Schedule};

@@ -1,5 +1,5 @@
 //! How a line is cut into its first word and its fields.
-ghost use Rattle.std.specs.Prelude.{◌≡◌, ℕ, List, ◌∷◌, []};
+ghost use Rattle.std.specs.Prelude.{◌≡◌, ℕ, List, []};
 ghost use Rattle.std.specs.Option.{option_map_or};
 ghost use Rattle.hy_script.specs.Lines.{pieces_of, words_of};
 ghost use Rattle.hy_script.specs.Fields.{HasFields, HasWords, number_field, one_number, two_numbers, three_numbers, number_and_text, no_fields};

@@ -5,10 +5,9 @@ use Rattle.std.proofs.lemmas.Nat.{le-div}
 use Rattle.std.proofs.lemmas.List.Sums.{sum_by-cons}
 use mathlib.Core.Bool.{true≢false}
 use Rattle.std.proofs.lemmas.Bool.{and_parts, eqb-true, eqb-false, leb-true, ltb-true}
-use Rattle.std.specs.Prelude.{◌⊎◌, Option, Some, None, ◌==◌, ◌&&◌, ◌%◌, ◌/◌, not, map, count_by, nat_le, nat_lt, option_map, option_and_then, option_to_list, slice_get, unwrap_or, if◌then◌else◌}
+use Rattle.std.specs.Prelude.{◌⊎◌, Option, Some, None, ◌==◌, ◌%◌, ◌/◌, not, map, count_by, nat_le, nat_lt, option_map, option_and_then, option_to_list, slice_get, unwrap_or, if◌then◌else◌}
 use Rattle.std.specs.Option.{option_map_or}
 use Rattle.std.specs.List.{AllByRecursion}
-use Rattle.hy_base.specs.declared.layout.Shape.{Shape}
 use Rattle.hy_base.specs.declared.record.EntryKind.{EntryKind}
 use Rattle.hy_base.specs.declared.record.EntryKind.TheVariants.{Filler, Txn}
 use Rattle.hy_base.specs.declared.record.Intention.{Intention}
@@ -21,8 +20,8 @@ use Rattle.hy_base.specs.Lists.{nth, change_nth}
 use Rattle.hy_base.specs.Shape.{whole_groups}
 use Rattle.hy_base.specs.Script.{Workload}
 use Rattle.hy_rules.specs.Exec.{Effects, intention}
-use Rattle.hy_rules.specs.Moves.{Setting, State, is_begun, may_begin, client_passes, enabled, surviving, missing, at_next_program, begun_at, appended, abandoned, restarted, board_of, home_server, after, stopped_if_armed, is_declared, ends_whole_group, fresh_session, opening}
-use Rattle.hy_rules.specs.Runs.{setting_of, opening_of, suits, may_happen, added, own_entry, pending, begun_snap, step, run}
+use Rattle.hy_rules.specs.Moves.{Setting, State, is_begun, may_begin, client_passes, enabled, surviving, missing, at_next_program, begun_at, appended, abandoned, restarted, board_of, home_server, is_declared, ends_whole_group, fresh_session}
+use Rattle.hy_rules.specs.Runs.{setting_of, opening_of, may_happen, added, pending, begun_snap, step, run}
 use Rattle.hy_rules.proofs.Backward.{next_state, run_keeps}
 use Rattle.hy_rules.specs.Sessions.{IsSessionOrdered, begins, snapshot_of}
 use Rattle.hy_serial.specs.Laws.{SessionsAreOrdered}

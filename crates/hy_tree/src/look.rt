@@ -1,5 +1,5 @@
 //! Looking into a tree, one place at a time, at a price.
-ghost use Rattle.std.specs.Prelude.{◌≡◌, ℕ, ◌+◌, ◌<◌, List, [], ◌++◌, length, IfOk};
+ghost use Rattle.std.specs.Prelude.{◌≡◌, ℕ, ◌+◌, ◌<◌, List, [], ◌++◌, IfOk};
 ghost use Rattle.hy_base.specs.declared.record.Row.{Row};
 ghost use Rattle.hy_tree.specs.Shows.{Shows};
 ghost use Rattle.hy_tree.specs.TreeRows.{greatest_writer, AreRows, CanFork};

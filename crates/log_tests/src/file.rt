@@ -1,10 +1,11 @@
 //! A log on a real file is appended to, closed, opened again, damaged, and refused.
 ghost use Rattle.std.specs.Prelude.{◌≡◌, ◌≤◌, length, IfOk};
+ghost use Rattle.hy_formats.specs.LogFormat.{longest_body};
 
 use hy_base::Shape;
 use hy_disk::Disk;
 use hy_file::FileDisk;
-use hy_formats::{BadPage, Damage};
+use hy_formats::{BadPage, Damage, LONGEST_BODY};
 use hy_log::{OpenError, PageLog, open_log};
 use std::alloc::{AllocError, Global};
 use std::fs;
@@ -25,9 +26,9 @@ const SHAPE: Shape = Shape {
 
 // Zeros, in number the most bytes of a body, 18,634. `AllocError` where memory is wanting.
 fn body_buffer(alloc: Global) -> Result<Vec<u8>, AllocError>
-    ensures { IfOk result (λ bytes. length bytes.items ≡ 18634) }
+    ensures { IfOk result (λ bytes. length bytes.items ≡ longest_body) }
 {
-    vec![in alloc; 0; 18634]
+    vec![in alloc; 0; LONGEST_BODY]
 }
 
 // Whether the first body is the put.

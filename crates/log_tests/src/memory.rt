@@ -4,6 +4,7 @@ ghost use Rattle.hy_base.specs.Shape.{IsGoodShape};
 
 use hy_base::{Field, Shape};
 use hy_disk::Tuned;
+use hy_formats::LONGEST_BODY;
 use hy_log::{AppendError, OpenError, PageLog, open_log};
 use hy_mem::MemDisk;
 use std::alloc::Global;
@@ -82,7 +83,7 @@ fn what_was_appended_is_read(rt: HostRuntime) -> Result<(), Fail> {
     assert!(rt; log.append(&long) == Ok(2));
     let mut again = log_on(alloc, log.close(), SHAPE)?;
     assert!(rt; again.len() == 2);
-    let mut body = vec![in alloc; 0; 18634]?;
+    let mut body = vec![in alloc; 0; LONGEST_BODY]?;
     let count = again.read(1, &mut body)?;
     assert_eq!(rt; &body[..count], PUT.as_slice());
     let count = again.read(2, &mut body)?;

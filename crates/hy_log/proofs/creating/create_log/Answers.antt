@@ -1,7 +1,7 @@
 use Rattle.std.proofs.Common.{◌≡◌, ℕ, ◌+◌, List, [], length, Result, Ok, Err, OnOk, sym, ◌∙◌, ap, subst, arith}
 use Rattle.hy_disk.specs.Content.{settled}
 use Rattle.hy_disk.proofs.Moments.{joined, weaker}
-use Rattle.hy_pages.specs.Words.{IsFront}
+use Rattle.hy_formats.specs.LogDevice.{IsFront}
 use Rattle.hy_log.specs.Gates.{IsGuarded, gate_opened}
 use Rattle.hy_log.proofs.Creation.{unborn_kept, creation_kept, born_front, born_closed, header_piece}
 use Rattle.hy_log.proofs.creating.create_log.Goals as goal

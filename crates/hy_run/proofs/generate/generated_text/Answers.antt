@@ -1,4 +1,4 @@
-use Rattle.std.proofs.Common.{◌≡◌, List, ◌∙◌, subst}
+use Rattle.std.proofs.Common.{List, subst}
 use Rattle.hy_base.specs.declared.workload.Event.{Event}
 use Rattle.hy_base.specs.Script.{Workload}
 use Rattle.hy_gen.specs.Load.{script_of}

@@ -1,4 +1,4 @@
-use Rattle.std.proofs.Common.{arith, subst, sym, ◌≡◌, ◌∙◌, ap, List, Some, None}
+use Rattle.std.proofs.Common.{arith, subst, sym, ◌≡◌, ◌∙◌, ap, None}
 use Rattle.hy_base.specs.Later.{Later}
 use Rattle.hy_base.specs.declared.record.Row.{Row}
 use Rattle.hy_base.specs.Lists.{put}

@@ -2,7 +2,7 @@ use Rattle.std.proofs.Common.{◌≡◌, ◌*◌, ◌/◌, ◌%◌, ◌≤◌, �
 use Rattle.std.proofs.Math.Nat.{mul-mod_right}
 use Rattle.hy_base.specs.declared.layout.Shape.{Shape}
 use Rattle.hy_base.specs.declared.record.Row.{Row}
-use Rattle.hy_base.specs.Shape.{IsGoodShape, IsWithin, base_groups}
+use Rattle.hy_base.specs.Shape.{IsWithin, base_groups}
 use Rattle.hy_base.specs.Rows.{Each}
 use Rattle.hy_rolling.specs.Rolling.{AreWritten, Roll, rolled_upto, next_base}
 use Rattle.hy_formats.specs.Checkpoint.{base_behind}

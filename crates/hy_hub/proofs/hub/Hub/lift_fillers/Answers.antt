@@ -1,4 +1,4 @@
-use Rattle.std.proofs.Common.{rules, ◌≡◌, ◌++◌, List, [], sym, subst, ap, ◌∙◌}
+use Rattle.std.proofs.Common.{rules, ◌++◌, List, sym, subst, ap, ◌∙◌}
 use Rattle.hy_hub.specs.declared.mark.Occurrence.{Occurrence}
 use Rattle.hy_hub.specs.Flights.{PadAdvances}
 use Rattle.hy_hub.proofs.Stepping.{pad_leaves, pad_stepped}
