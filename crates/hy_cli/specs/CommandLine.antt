@@ -5,7 +5,8 @@ use Rattle.std.specs.List.{find, list_all, list_any}
 use Rattle.std.specs.Option.{option_map_or}
 use Rattle.std.specs.Str.Parse.{digits_value}
 use Rattle.hy_base.specs.Spelling.{Text, number_of}
-use Rattle.hy_base.specs.Shape.{IsWithin, is_within}
+use Rattle.hy_base.specs.Shape.{is_within}
+use Rattle.hy_base.specs.Limits.{IsThreadCount, IsLoadSize}
 use Rattle.hy_cli.specs.declared.line.Line.{Line}
 use Rattle.hy_cli.specs.declared.line.Line.TheVariants.{Run, Sim, Recover, Check, Load}
 
@@ -98,9 +99,9 @@ command_named word = find (λ c. bytes_eq c.name word) commands
 
 -- the numbers of a line are in their ranges
 abbrev pub IsInOptionRange : Line → Type 0
-IsInOptionRange (Run threads point save) = IsWithin 1 16 threads
-IsInOptionRange (Sim threads) = IsWithin 1 16 threads
-IsInOptionRange (Load seed size threads) = IsWithin 1 80000 size × IsWithin 1 16 threads
+IsInOptionRange (Run threads point save) = IsThreadCount threads
+IsInOptionRange (Sim threads) = IsThreadCount threads
+IsInOptionRange (Load seed size threads) = IsLoadSize size × IsThreadCount threads
 IsInOptionRange _ = Unit {0}
 
 -- the word for the command of a line

@@ -1,6 +1,7 @@
 //! What the matches of `clap` say.
 ghost use Rattle.std.specs.Prelude.{◌≡◌, Some, codes, false, is_some, true};
 ghost use Rattle.hy_base.specs.Shape.{IsWithin};
+ghost use Rattle.hy_base.specs.Limits.{IsThreadCount};
 ghost use Rattle.hy_cli.specs.CommandLine.{IsInOptionRange, command_named, command_word, flag, seed_option, size_option, threads_option};
 ghost use Rattle.hy_cli.specs.Matches.{choices_found, has_accepted, is_accepted, line_found};
 ghost use Rattle.clap.specs.Words.{found_of, rows_of};
@@ -11,7 +12,7 @@ use clap::ArgMatches;
 /// The number of threads.
 fn threads_of(found: &ArgMatches<'_>) -> u8
     requires { is_accepted (rows_of (found_of found.now)) threads_option ≡ true }
-    ensures range { IsWithin 1 16 result }
+    ensures range { IsThreadCount result }
     ensures value { result ≡ (choices_found (rows_of (found_of found.now))).number_or 2 (codes "threads") }
 {
     found.get_one::<u64>("threads").unwrap_or(2) as u8

@@ -19,6 +19,7 @@ use Rattle.hy_hub.specs.declared.mark.Occurrence.{Occurrence}
 use Rattle.hy_hub.specs.Trace.{setting_in}
 use Rattle.hy_hub.specs.Calls.{OneTurn, OwnTurn, IsIdle, IsEntryOf, is_declared_client}
 use Rattle.hy_base.proofs.NthLemmas.{nth_map, nth_within, All-nth}
+use Rattle.hy_base.specs.Limits.{IsClientNumber, IsServerNumber}
 use Rattle.hy_clients.specs.Passing.{IsRunPass}
 use Rattle.hy_clients.specs.Serving.{IsServedClient}
 
@@ -54,7 +55,7 @@ module _ (script : Workload) (client server : ℕ) (own : IsServedClient script 
   pub client_within : IsWithin 1 (length script.clients) client
   client_within = nth_within script.clients client own.client own.is
 
-  pub client_low : IsWithin 1 128 client
+  pub client_low : IsClientNumber client
   client_low = let w = client_within in let few = own.few in record { at_least = w.at_least; at_most = let m = w.at_most in omega (arith, m, few) }
 
   good_client : IsGoodClient script.servers own.client
@@ -63,7 +64,7 @@ module _ (script : Workload) (client server : ℕ) (own : IsServedClient script 
   pub server_within : IsWithin 1 script.servers server
   server_within = subst (λ n. IsWithin 1 script.servers n) own.server_is good_client.server
 
-  pub server_low : IsWithin 1 8 server
+  pub server_low : IsServerNumber server
   server_low = let w = server_within in let most = own.script_is.servers.at_most in record { at_least = w.at_least; at_most = let m = w.at_most in omega (arith, m, most) }
 
   pub home_is : home_server (script_setting script) client ≡ server

@@ -9,6 +9,7 @@ use Rattle.hy_base.specs.declared.report.Reply.{Reply}
 use Rattle.hy_base.specs.declared.workload.Event.{Event}
 use Rattle.hy_base.specs.declared.layout.Shape.{Shape}
 use Rattle.hy_base.specs.Script.{Workload}
+use Rattle.hy_formats.specs.LogFormat.{largest_batch}
 use Rattle.hy_disk.specs.Content.{Content, Image}
 use Rattle.hy_log.specs.View.{LogView, HoldsUpTo}
 use Rattle.hy_formats.specs.EntryFormat.{spelling}
@@ -60,7 +61,7 @@ pub record IsFinished {D : Type 0} (tells : Bool) (script : Workload) (found : L
 -- A crash leaves the log's bodies, or these and those of the whole batch.
 pub record IsTornBehind {D : Type 0} (content : D → Content) (shape : Shape) (entries : List EntryKind) (log : LogView D) : Type 0 where
   pub batch : List EntryKind
-  pub size : IsWithin 1 8 (length batch)
+  pub size : IsWithin 1 largest_batch (length batch)
   pub lawful : IsLawful shape (entries ++ batch)
   pub sound : AllByRecursion IsSoundLog batch
   pub left : (image : List ℕ) → Image (content log.disk) image → HoldsUpTo shape log.bodies (map spelling batch) image

@@ -3,7 +3,7 @@ ghost use Rattle.std.specs.Prelude.{◌≡◌, ◌≢◌, ◌≤◌, ◌==◌, l
 ghost use Rattle.std.specs.List.{list_all};
 ghost use mathlib.Core.List.{IsPrefix};
 ghost use Rattle.hy_base.specs.Faults.{Rose};
-ghost use Rattle.hy_base.specs.Shape.{IsWithin};
+ghost use Rattle.hy_base.specs.Limits.{IsThreadCount};
 ghost use Rattle.hy_rules.specs.Runs.{setting_of as script_setting};
 ghost use Rattle.hy_hub.specs.Calls.{events_in_list};
 ghost use Rattle.hy_hub.specs.Close.{IsClosed};
@@ -123,7 +123,7 @@ fn serve_to_end<D: Disk + Send, R: Threads + Wait + Sync, G: Gate + Sync>(
 ) -> Result<Vec<Vec<Answered>>, Cut>
     requires pass { IsRunPass hub.now script.now pass.old }
     requires parts { (hub.now.parts ≡ 129) × (pass.old.parts ≡ 129) }
-    requires threads { IsWithin 1 16 threads }
+    requires threads { IsThreadCount threads }
     ensures pass { IsRunPass hub.now script.now pass.new }
     ensures parts { pass.new.parts ≡ 129 }
     ensures grown { IsPrefix pass.old.seen pass.new.seen }
@@ -148,7 +148,7 @@ fn run_on<D: Disk + Send, R: Threads + Wait + Sync, G: Gate + Sync>(
     requires pass { IsRunPass hub script.now pass }
     requires parts { (hub.parts ≡ 129) × (pass.parts ≡ 129) }
     requires within { OpensInLog pass.seen }
-    requires threads { IsWithin 1 16 threads }
+    requires threads { IsThreadCount threads }
     ensures run { IfOk result (λ run. IsFinished D.tells script.now (opened_log pass.seen) (opened_start pass.seen) run.events run.replies run.boards run.log) }
     ensures cut { IfErr result (λ broken. IsCutShort D.tells D.content script.now.shape (opened_log pass.seen) broken.log) }
     ensures cause { IfErr result (λ broken. broken.cause ≡ Cause.Device → Rose (opened_faults pass.seen) (D.faults_of broken.log.disk)) }
@@ -186,7 +186,7 @@ pub fn run_clients<D: Disk + Send, R: Threads + Wait + Sync, G: Gate + Sync>(
 ) -> Result<Run<D>, Broken<D>>
     requires outset { IsOutset D.tells log entries.items start script.now.servers (script_setting script.now).homes }
     requires shape { start.shape ≡ script.now.shape }
-    requires threads { IsWithin 1 16 threads }
+    requires threads { IsThreadCount threads }
     ensures run { IfOk result (λ run. IsFinished D.tells script.now entries.items start run.events run.replies run.boards run.log) }
     ensures cut { IfErr result (λ broken. IsCutShort D.tells D.content script.now.shape entries.items broken.log) }
     ensures cause { IfErr result (λ broken. broken.cause ≡ Cause.Device → Rose (D.faults_of log.disk) (D.faults_of broken.log.disk)) }

@@ -4,6 +4,7 @@ ghost use Rattle.std.specs.List.{list_all};
 ghost use mathlib.Core.List.{IsPrefix};
 ghost use Rattle.hy_base.specs.Lists.{change_nth};
 ghost use Rattle.hy_base.specs.Shape.{IsWithin};
+ghost use Rattle.hy_base.specs.Limits.{IsThreadCount};
 ghost use Rattle.hy_hub.specs.Calls.{len_of};
 ghost use Rattle.hy_hub.specs.Trace.{state_after};
 ghost use Rattle.hy_clients.specs.Passing.{IsRunPass};
@@ -33,7 +34,7 @@ fn publish_end<D: Disk, R: Threads + Wait + Sync, G: Gate + Sync>(
     requires all { pass.old.parts ≡ hub.now.parts }
     requires server { IsWithin 1 script.now.servers server }
     requires even { len_of pass.old.seen % script.now.shape.group ≡ 0 }
-    requires threads { IsWithin 1 16 threads }
+    requires threads { IsThreadCount threads }
     ensures pass { IsRunPass hub.now script.now pass.new }
     ensures parts { pass.new.parts ≡ pass.old.parts }
     ensures grown { IsPrefix pass.old.seen pass.new.seen }
@@ -66,7 +67,7 @@ pub(crate) fn bring_to_end<D: Disk, R: Threads + Wait + Sync, G: Gate + Sync>(
 ) -> Result<(), Cut>
     requires pass { IsRunPass hub.now script.now pass.old }
     requires all { pass.old.parts ≡ hub.now.parts }
-    requires threads { IsWithin 1 16 threads }
+    requires threads { IsThreadCount threads }
     ensures pass { IsRunPass hub.now script.now pass.new }
     ensures parts { pass.new.parts ≡ pass.old.parts }
     ensures grown { IsPrefix pass.old.seen pass.new.seen }

@@ -3,6 +3,7 @@ ghost use Rattle.std.specs.Prelude.{◌≡◌, ◌+◌, ◌≤◌, ℕ, [], leng
 ghost use Rattle.hy_base.specs.Lists.{nth};
 ghost use Rattle.hy_base.specs.Shape.{IsWithin};
 ghost use Rattle.hy_base.specs.declared.workload.Client.{Client};
+ghost use Rattle.hy_base.specs.Limits.{IsThreadCount};
 ghost use Rattle.hy_rules.specs.Runs.{program_of};
 ghost use Rattle.hy_rolling.specs.Rolling.{rolled_upto};
 ghost use Rattle.hy_hub.specs.Calls.{IsEntryOf, IsRollable, IsRollerOf, len_of};
@@ -167,7 +168,7 @@ pub(crate) fn catch_up<D: Disk, R: Threads + Wait + Sync, G: Gate + Sync>(
 ) -> Result<(), Cut>
     requires pass { IsRunPass hub.now script.now pass.old }
     requires server { IsWithin 1 script.now.servers server }
-    requires threads { IsWithin 1 16 threads }
+    requires threads { IsThreadCount threads }
     ensures pass { IsRunPass hub.now script.now pass.new }
     ensures goes { (client : ℕ) → GoesOn client pass.old pass.new [] }
 {
@@ -214,7 +215,7 @@ fn begin_program<D: Disk, R: Threads + Wait + Sync, G: Gate + Sync>(
     requires pass { IsRunPass hub.now script.now pass.old }
     requires server { IsWithin 1 script.now.servers server }
     requires client { IsWithin 1 (length script.now.clients) client }
-    requires threads { IsWithin 1 16 threads }
+    requires threads { IsThreadCount threads }
     ensures pass { IsRunPass hub.now script.now pass.new }
     ensures parts { pass.new.parts ≡ pass.old.parts }
     ensures begun { IfOk result (Begins script.now client pass.old pass.new) }
@@ -389,7 +390,7 @@ fn serve_program<D: Disk, R: Threads + Wait + Sync, G: Gate + Sync>(
     requires pass { IsRunPass hub.now script.now pass.old }
     requires client { IsServedClient script.now client server }
     requires program { program_of script.now client number ≡ Some program.now }
-    requires threads { IsWithin 1 16 threads }
+    requires threads { IsThreadCount threads }
     ensures pass { IsRunPass hub.now script.now pass.new }
     ensures parts { pass.new.parts ≡ pass.old.parts }
     ensures served { IfOk result (Serves script.now client number pass.old pass.new) }
@@ -420,7 +421,7 @@ fn serve_next<D: Disk, R: Threads + Wait + Sync, G: Gate + Sync>(
     requires number { number ≡ length told.old.items + 1 }
     requires program { program_of script.now client number ≡ Some program.now }
     requires served { AreServed script.now client 1 pass.old.seen (own_turns client pass.old) told.old.items }
-    requires threads { IsWithin 1 16 threads }
+    requires threads { IsThreadCount threads }
     ensures pass { IsRunPass hub.now script.now pass.new }
     ensures parts { pass.new.parts ≡ pass.old.parts }
     ensures served { OnOk result (AreServed script.now client 1 pass.new.seen (own_turns client pass.new) told.new.items) }
@@ -459,7 +460,7 @@ pub(crate) fn serve_client<D: Disk, R: Threads + Wait + Sync, G: Gate + Sync>(
     requires client { IsWithin 1 (length script.now.clients) client }
     requires unserved { own_turns client pass.old ≡ [] }
     requires untold { told.old.items ≡ [] }
-    requires threads { IsWithin 1 16 threads }
+    requires threads { IsThreadCount threads }
     ensures pass { IsRunPass hub.now script.now pass.new }
     ensures parts { pass.new.parts ≡ pass.old.parts }
     ensures served { OnOk result (AreServed script.now client 1 pass.new.seen (own_turns client pass.new) told.new.items) }

@@ -1,6 +1,6 @@
 //! The clients' tasks, which run concurrently, each with a pass of its own.
 ghost use Rattle.std.specs.Prelude.{◌≡◌, ◌+◌, ◌≤◌, [], length, map, vec_capacity, IfOk, IfErr, All};
-ghost use Rattle.hy_base.specs.Shape.{IsWithin};
+ghost use Rattle.hy_base.specs.Limits.{IsThreadCount};
 ghost use mathlib.Core.List.{IsPrefix};
 ghost use Rattle.hy_clients.specs.Fanning.{AreNumbered, IsEndedTask, IsReadyTask};
 ghost use Rattle.hy_clients.specs.Passing.{IsRunPass};
@@ -48,7 +48,7 @@ fn run_task<D: Disk, R: Threads + Wait + Sync, G: Gate + Sync>(
     gate: &G,
 )
     requires ready { IsReadyTask hub.now script.now task.old }
-    requires threads { IsWithin 1 16 threads }
+    requires threads { IsThreadCount threads }
     ensures ended { IsEndedTask hub.now script.now task.new }
     ensures same { task.new.client ≡ task.old.client }
 {
@@ -83,7 +83,7 @@ fn run_tasks<D: Disk + Send, R: Threads + Wait + Sync, G: Gate + Sync>(
 )
     requires ready { All (IsReadyTask hub.now script.now) tasks.old }
     requires numbered { AreNumbered 1 tasks.old }
-    requires threads { IsWithin 1 16 threads }
+    requires threads { IsThreadCount threads }
     ensures ended { All (IsEndedTask hub.now script.now) tasks.new }
     ensures same { AreNumbered 1 tasks.new }
     ensures count { length tasks.new ≡ length tasks.old }
@@ -95,7 +95,7 @@ fn run_tasks<D: Disk + Send, R: Threads + Wait + Sync, G: Gate + Sync>(
         tasks,
         count,
         &|_, task: &mut Task<D>|
-            requires { IsReadyTask hub.now script.now task.now × IsWithin 1 16 share }
+            requires { IsReadyTask hub.now script.now task.now × IsThreadCount share }
             ensures { IsEndedTask hub.entry.now script.entry.now task.exit.now × (task.exit.now.client ≡ task.entry.now.client) }
         { run_task(rt, alloc, script, hub, task, share, gate) },
     );
@@ -184,7 +184,7 @@ pub(crate) fn serve_all<D: Disk + Send, R: Threads + Wait + Sync, G: Gate + Sync
 ) -> Result<Vec<Vec<Answered>>, Cut>
     requires pass { IsRunPass hub.now script.now pass.old }
     requires parts { pass.old.parts ≡ 129 }
-    requires threads { IsWithin 1 16 threads }
+    requires threads { IsThreadCount threads }
     ensures pass { IsRunPass hub.now script.now pass.new }
     ensures parts { pass.new.parts ≡ 129 }
     ensures grown { IsPrefix pass.old.seen pass.new.seen }

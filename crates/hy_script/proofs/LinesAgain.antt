@@ -23,6 +23,7 @@ use Rattle.hy_script.specs.declared.script.ProgramLine.TheVariants.{Next}
 use Rattle.hy_script.specs.declared.why.Why.{Why}
 use Rattle.hy_script.specs.declared.why.Why.TheVariants.{Number, Value, Range, Order, Count}
 use Rattle.hy_base.proofs.NumberLemmas.{number_of_decimal}
+use Rattle.hy_base.specs.Limits.{IsServerNumber}
 
 -- fields
 
@@ -77,7 +78,7 @@ within_again low high n small w =
     ap (λ read. and_then read (λ m. if is_within low high m then Ok m else Err Range)) (one_again n (omega (arith, small, w.at_most)))
     ∙ if_so (is_within low high n) (Ok n) (Err Range) (within_is low high n w)
 
-pub servers_again : (n : ℕ) → IsWithin 1 8 n → servers_line (codes "servers" ∷ decimal n ∷ []) ≡ Ok n
+pub servers_again : (n : ℕ) → IsServerNumber n → servers_line (codes "servers" ∷ decimal n ∷ []) ≡ Ok n
 servers_again n w = within_again 1 8 n (omega arith) w
 
 pub client_again : (sim : Bool) (script : Workload) (server : ℕ) → script.servers ≤ 8 → IsWithin 1 script.servers server → client_count script.clients server < 16

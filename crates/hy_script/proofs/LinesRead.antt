@@ -9,6 +9,7 @@ use Rattle.hy_base.specs.Script.{Workload, IsCommand, client_count}
 use Rattle.hy_base.specs.Shape.{IsWithin, IsGoodShape, is_within}
 use Rattle.hy_base.specs.Spelling.{Text}
 use Rattle.hy_base.specs.Value.{is_value}
+use Rattle.hy_base.specs.Limits.{IsServerNumber}
 use Rattle.hy_script.specs.Fields.{and_then, one_number, two_numbers, three_numbers, number_and_text, no_fields}
 use Rattle.hy_script.specs.Grammar.{is_shape, last_program_count}
 use Rattle.hy_script.specs.Laws.{FitsFields}
@@ -53,7 +54,7 @@ number_within_was low high fields n e =
     let same : read.0 ≡ n = cc (tested.1) in
     (subst (λ k. fields ≡ decimal k ∷ []) same (one_was fields read.0 read.1).0, subst (IsWithin low high) same (within_was low high read.0 tested.0))
 
-pub servers_was : (words : List Text) (n : ℕ) → servers_line words ≡ Ok n → (words ≡ codes "servers" ∷ decimal n ∷ []) × IsWithin 1 8 n
+pub servers_was : (words : List Text) (n : ℕ) → servers_line words ≡ Ok n → (words ≡ codes "servers" ∷ decimal n ∷ []) × IsServerNumber n
 servers_was [] n e = cc
 servers_was (word ∷ fields) n e =
     let named = if_was (bytes_eq word (codes "servers")) (number_within 1 8 fields) Word n e in

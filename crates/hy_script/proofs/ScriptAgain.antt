@@ -15,6 +15,7 @@ use Rattle.hy_base.specs.declared.workload.Program.{Program}
 use Rattle.hy_base.specs.Script.{Workload, IsClient, IsCommand, IsProgram, client_count}
 use Rattle.hy_base.specs.Shape.{IsGoodShape, IsWithin}
 use Rattle.hy_base.specs.Spelling.{Text}
+use Rattle.hy_base.specs.Limits.{IsServerNumber}
 use Rattle.hy_script.specs.Grammar.{Place, AtStart, Shaped, Listing, Programming, change_last, gains_program, last_program_count, with_program}
 use Rattle.hy_script.specs.Laws.{ClientFits, FitsFields, IsScriptSpellable, ProgramFits, ReadsItsSpelling}
 use Rattle.hy_script.specs.Lines.{lines_of, numbered_lines, words_of}
@@ -79,7 +80,7 @@ shape_walks sim shape good =
     })
     (λ number line e. sym (shape_leads sim number (words_of line)) ∙ ap (leading Shaped) (ap shape_line e ∙ shape_again shape good))
 
-servers_walk : (sim : Bool) (shape : Shape) (n : ℕ) → IsWithin 1 8 n → Walks sim (Shaped shape) ((codes "servers" ∷ decimal n ∷ []) ∷ []) (served shape n)
+servers_walk : (sim : Bool) (shape : Shape) (n : ℕ) → IsServerNumber n → Walks sim (Shaped shape) ((codes "servers" ∷ decimal n ∷ []) ∷ []) (served shape n)
 servers_walk sim shape n within =
     one_line sim (Shaped shape) (served shape n) _ (record { visible = (refl, (visible_decimal n (omega (arith, within.at_most)), tt)); says_some = refl })
     (λ number line e. sym (servers_leads sim shape number (words_of line)) ∙ ap (leading (served shape)) (ap servers_line e ∙ servers_again n within))

@@ -2,6 +2,7 @@
 ghost use Rattle.std.specs.Prelude.{◌≡◌, ◌<◌, [], length, IfOk};
 ghost use Rattle.hy_base.specs.Script.{IsScript, IsProgram, client_count};
 ghost use Rattle.hy_base.specs.Shape.{IsGoodShape, IsWithin};
+ghost use Rattle.hy_base.specs.Limits.{IsServerNumber};
 ghost use Rattle.hy_script.specs.Grammar.{with_client, with_program, last_program_count};
 
 use hy_base::{Client, Clients, Commands, Program, Programs, Script, Shape};
@@ -30,7 +31,7 @@ impl Draft {
     /// A script without clients.
     pub fn new(alloc: Global, shape: Shape, servers: u8) -> Draft
         requires shape { IsGoodShape shape }
-        requires servers { IsWithin 1 8 servers }
+        requires servers { IsServerNumber servers }
         ensures { result ≡ record { shape = shape; servers = servers; clients = [] } }
     {
         Draft {

@@ -7,6 +7,7 @@ ghost use Rattle.hy_script.specs.Parts.{IsClientListed, IsNextLine};
 ghost use Rattle.hy_script.specs.ScriptFields.{shape_fields, scan_fields, ValueOf, shape_line, servers_line, number_within, client_fields, listing_line, one_more, put_fields, program_line, TellsField};
 ghost use Rattle.hy_script.specs.Lines.{words_of};
 ghost use Rattle.hy_base.specs.declared.workload.Command.TheVariants.{Get, Del, Add};
+ghost use Rattle.hy_base.specs.Limits.{IsServerNumber};
 ghost use Rattle.hy_script.specs.declared.script.ListingLine.TheVariants.{Begin, Schedule};
 ghost use Rattle.hy_script.specs.declared.script.ProgramLine.TheVariants.{End};
 ghost use Rattle.hy_script.specs.declared.why.Why.TheVariants.{Count};
@@ -107,7 +108,7 @@ fn within(low: u8, high: u8, fields: Fields<'_>) -> Result<u8, Why>
 /// The number of servers.
 pub fn read_servers(line: &[u8]) -> Result<u8, Why>
     ensures exact { result ≡ servers_line (words_of line.now) }
-    ensures range { IfOk result (λ n. IsWithin 1 8 n) }
+    ensures range { IfOk result (λ n. IsServerNumber n) }
 {
     let (word, fields) = cut_fields(line);
     if word == b"servers".as_slice() {

@@ -1,7 +1,7 @@
 //! Batches: bodies that are written at once, and what a stop in each device call of that leaves.
 ghost use Rattle.std.specs.Prelude.{◌≡◌, ◌≤◌, ◌<◌, [], length, None, IfOk};
 
-use crate::memory::log_with_room;
+use crate::memory::{PUT, SHAPE, log_with_room};
 use hy_base::Shape;
 use hy_disk::Tuned;
 use hy_formats::{BadPage, Damage};
@@ -9,17 +9,6 @@ use hy_log::{AddError, OpenError, PageLog, open_log};
 use hy_mem::MemDisk;
 use std::alloc::Global;
 use std::test::Fail;
-
-// A put of `a` at key 1, on the empty snapshot.
-const PUT: [u8; 22] = [
-    1, 1, 1, 0, 0, 0, 0, 0, 0, 1, 1, 0, 0, 0, 0, 0, 0, 0, 1, 1, 0, b'a',
-];
-
-const SHAPE: Shape = Shape {
-    group: 1,
-    window: 1,
-    cap: 8,
-};
 
 // An empty log of the shape, with two puts in its batch.
 fn two_wait(alloc: Global) -> Result<PageLog<MemDisk>, Fail>

@@ -1,23 +1,11 @@
 //! The log itself, where the write of a gate fails: a second append answers that the log is stopped, and changes nothing.
 ghost use Rattle.std.specs.Prelude.{◌≤◌};
 
-use crate::memory::log_with_room;
-use hy_base::Shape;
+use crate::memory::{PUT, SHAPE, log_with_room};
 use hy_log::AppendError;
 use hy_mem::MemDisk;
 use std::alloc::Global;
 use std::test::Fail;
-
-// A put of `a` at key 1, on the empty snapshot.
-const PUT: [u8; 22] = [
-    1, 1, 1, 0, 0, 0, 0, 0, 0, 1, 1, 0, 0, 0, 0, 0, 0, 0, 1, 1, 0, b'a',
-];
-
-const SHAPE: Shape = Shape {
-    group: 1,
-    window: 1,
-    cap: 8,
-};
 
 // How many bodies a log has that is opened again after its first append failed at the gate.
 fn opened_again(alloc: Global, pattern: u8) -> Result<u32, Fail>

@@ -2,7 +2,7 @@
 ghost use Rattle.std.specs.Prelude.{◌≡◌, ◌≤◌, length, IfOk};
 ghost use Rattle.hy_formats.specs.LogFormat.{longest_body};
 
-use hy_base::Shape;
+use crate::memory::{PUT, SHAPE};
 use hy_disk::Disk;
 use hy_file::FileDisk;
 use hy_formats::{BadPage, Damage, LONGEST_BODY};
@@ -12,17 +12,6 @@ use std::fs;
 use std::test::Fail;
 
 const PATH: &str = "log_on_file_test.log";
-
-// A put of `a` at key 1, on the empty snapshot.
-const PUT: [u8; 22] = [
-    1, 1, 1, 0, 0, 0, 0, 0, 0, 1, 1, 0, 0, 0, 0, 0, 0, 0, 1, 1, 0, b'a',
-];
-
-const SHAPE: Shape = Shape {
-    group: 1,
-    window: 1,
-    cap: 8,
-};
 
 // Zeros, in number the most bytes of a body, 18,634. `AllocError` where memory is wanting.
 fn body_buffer(alloc: Global) -> Result<Vec<u8>, AllocError>

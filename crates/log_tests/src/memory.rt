@@ -10,6 +10,18 @@ use hy_mem::MemDisk;
 use std::alloc::Global;
 use std::test::Fail;
 
+/// A put of `a` at key 1, on the empty snapshot.
+pub const PUT: [u8; 22] = [
+    1, 1, 1, 0, 0, 0, 0, 0, 0, 1, 1, 0, 0, 0, 0, 0, 0, 0, 1, 1, 0, b'a',
+];
+
+/// Groups of one, and at most eight entries.
+pub const SHAPE: Shape = Shape {
+    group: 1,
+    window: 1,
+    cap: 8,
+};
+
 /// The log on a device, which has this shape, with room and memory for a few appends. None where memory is wanting, or no
 /// log of the shape can be opened.
 pub fn log_with_room(alloc: Global, disk: MemDisk, shape: Shape) -> Option<PageLog<MemDisk>>
@@ -29,17 +41,6 @@ pub fn log_with_room(alloc: Global, disk: MemDisk, shape: Shape) -> Option<PageL
     };
     Some(log)
 }
-
-// A put of `a` at key 1, on the empty snapshot.
-const PUT: [u8; 22] = [
-    1, 1, 1, 0, 0, 0, 0, 0, 0, 1, 1, 0, 0, 0, 0, 0, 0, 0, 1, 1, 0, b'a',
-];
-
-const SHAPE: Shape = Shape {
-    group: 1,
-    window: 1,
-    cap: 8,
-};
 
 const SMALL: Shape = Shape {
     group: 1,

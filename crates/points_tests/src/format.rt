@@ -8,13 +8,15 @@ use hy_tree::Tree;
 use std::alloc::Global;
 use std::test::Fail;
 
-const TWO_BY_TWO: Shape = Shape {
+/// Groups of two, windows of two.
+pub const TWO_BY_TWO: Shape = Shape {
     group: 2,
     window: 2,
     cap: 8,
 };
 
-const ONE_BY_ONE: Shape = Shape {
+/// Groups of one, windows of one.
+pub const ONE_BY_ONE: Shape = Shape {
     group: 1,
     window: 1,
     cap: 8,

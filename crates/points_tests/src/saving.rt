@@ -2,7 +2,7 @@
 ghost use Rattle.std.specs.Prelude.{◌≡◌, ◌≤◌, ◌%◌, length, IfOk};
 ghost use Rattle.hy_base.specs.Shape.{IsGoodShape};
 
-use crate::format::{FIRST_GROUP, page};
+use crate::format::{FIRST_GROUP, ONE_BY_ONE, TWO_BY_TWO, page};
 use hy_base::{
     Entry, Intention, Items, Key, Points, Pos, Shape, Shared, Spans, Value, Write, Writes,
 };
@@ -15,18 +15,6 @@ use hy_tree::Tree;
 use std::alloc::{AllocError, Global};
 use std::test::Fail;
 use std::thread::Threads;
-
-const SHAPE: Shape = Shape {
-    group: 2,
-    window: 2,
-    cap: 8,
-};
-
-const ONE_BY_ONE: Shape = Shape {
-    group: 1,
-    window: 1,
-    cap: 8,
-};
 
 // The log's third entry is saved as a flag, and the first two by their rows: key 4 deleted at 2, and "a" at key 9 by 1.
 const THREE_ENTRIES: [u8; 57] = [
@@ -55,7 +43,7 @@ fn point(alloc: Global, committed: &[bool]) -> Result<Point, AllocError>
         flags.push(*flag)?;
     }
     let position = committed.len() as u32;
-    Ok(Point::new(SHAPE, position, Tree::empty(), flags))
+    Ok(Point::new(TWO_BY_TWO, position, Tree::empty(), flags))
 }
 
 // A device with these bytes, and with room for a few saves.
@@ -73,7 +61,7 @@ fn held(alloc: Global, disk: &MemDisk) -> Result<Option<Pos>, Fail> {
     if bytes.len() < 256 || bytes[0] != 0x47 {
         return Ok(None);
     }
-    Ok(Some(decode_point(alloc, bytes, SHAPE)?.position()))
+    Ok(Some(decode_point(alloc, bytes, TWO_BY_TWO)?.position()))
 }
 
 fn front(bytes: &[u8], size: usize) -> &[u8] {
@@ -207,7 +195,7 @@ fn a_roller_is_saved_by_its_flags(rt: HostRuntime) -> Result<(), Fail> {
     let alloc = rt.alloc();
     let first = entry(alloc, 0, 1, text(alloc)?)?;
     let filler = Shared::new(alloc, Entry::filler(1))?;
-    let disk = saved(&rt, alloc, SHAPE, &[first, filler])?;
+    let disk = saved(&rt, alloc, TWO_BY_TWO, &[first, filler])?;
     assert_eq!(rt; disk.bytes(), page(&FIRST_GROUP).as_slice());
     Ok(())
 }
