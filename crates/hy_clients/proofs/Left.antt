@@ -23,7 +23,7 @@ use Rattle.hy_hub.specs.declared.mark.Occurrence.TheVariants.{Opened}
 use Rattle.hy_hub.specs.Trace.{setting_in, state_after}
 use Rattle.hy_hub.specs.Hub.{IsBoard, IsHubHistory, IsTornLog}
 use Rattle.hy_hub.specs.Close.{IsClosed}
-use Rattle.hy_hub.specs.Outset.{IsOutset}
+use Rattle.hy_hub.specs.Initial.{IsInitial}
 use Rattle.hy_hist.proofs.Lists.{prefix_self}
 use Rattle.hy_base.specs.declared.workload.Home.{Home}
 use Rattle.hy_base.proofs.NthLemmas.{left_of, right_of}
@@ -114,15 +114,15 @@ run_cut {D} {tells} {content} {faults} {list} {log} {entries} {rollers} closed s
     subst (λ (l : List EntryKind). IsCutShort tells content script.shape l log) o.log (cut_short closed script.shape shape)
 
 -- the log before a hub was made of it, or where none was
-pub outset_cut : {D : Type 0} (tells : Bool) (content : D → Content) (log back : LogView D) (entries : List EntryKind) (start : Roll) (servers : ℕ) (homes : List Home) (shape : Shape)
-    → IsOutset tells log entries start servers homes → start.shape ≡ shape → back.shape ≡ log.shape → back.stopped ≡ None → (IsTrue tells → back.bodies ≡ log.bodies) → IsCutShort tells content shape entries back
-outset_cut tells content log back entries start servers homes shape outset same here running bodies = record {
+pub initial_cut : {D : Type 0} (tells : Bool) (content : D → Content) (log back : LogView D) (entries : List EntryKind) (start : Roll) (servers : ℕ) (homes : List Home) (shape : Shape)
+    → IsInitial tells log entries start servers homes → start.shape ≡ shape → back.shape ≡ log.shape → back.stopped ≡ None → (IsTrue tells → back.bodies ≡ log.bodies) → IsCutShort tells content shape entries back
+initial_cut tells content log back entries start servers homes shape initial same here running bodies = record {
   entries = entries;
   begins = prefix_self entries;
-  lawful = subst (λ (s : Shape). IsLawful s entries) same outset.lawful;
-  sound = outset.sound;
-  log_shape = here ∙ (outset.shape ∙ same);
-  bodies = λ t. bodies t ∙ outset.bodies t;
+  lawful = subst (λ (s : Shape). IsLawful s entries) same initial.lawful;
+  sound = initial.sound;
+  log_shape = here ∙ (initial.shape ∙ same);
+  bodies = λ t. bodies t ∙ initial.bodies t;
   torn = λ t some. absurd (some running);
 }
 

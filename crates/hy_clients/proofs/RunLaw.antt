@@ -12,7 +12,7 @@ use Rattle.hy_base.specs.Script.{Workload}
 use Rattle.hy_rules.specs.Moves.{Setting, State, opening, fresh_session, is_stop}
 use Rattle.hy_rules.specs.Runs.{setting_of as script_setting, run}
 use Rattle.hy_hub.specs.declared.mark.Occurrence.{Occurrence}
-use Rattle.hy_hub.specs.Trace.{setting, setting_in, state_after, led, AreMoves}
+use Rattle.hy_hub.specs.Trace.{setting, setting_in, state_after, after_all, AreMoves}
 use Rattle.hy_hub.specs.Hub.{IsHubHistory}
 use Rattle.hy_hub.specs.Calls.{events_in_list}
 use Rattle.hy_base.proofs.NthLemmas.{nth_map}
@@ -59,8 +59,8 @@ module _ (script : Workload) (list : List Occurrence) (is : IsHubHistory list) (
   pub moves_are : AreMoves (script_setting script) (opening (script_setting script) is.opened.found) is.told.past
   moves_are = subst (λ (w : Setting). AreMoves w (opening w is.opened.found) is.told.past) setting_is is.told.moves
 
-  pub state_is : state_after list ≡ led (script_setting script) (opening (script_setting script) is.opened.found) is.told.past
-  state_is = sym is.told.leads ∙ ap (λ (w : Setting). led w (opening w is.opened.found) is.told.past) setting_is
+  pub state_is : state_after list ≡ after_all (script_setting script) (opening (script_setting script) is.opened.found) is.told.past
+  state_is = sym is.told.leads ∙ ap (λ (w : Setting). after_all w (opening w is.opened.found) is.told.past) setting_is
 
   home_is : (c : ℕ) (client : Client) → nth script.clients c ≡ Some client → nth is.opened.homes c ≡ Some (home_of client)
   home_is c client e = ap (λ (w : Setting). nth w.homes c) setting_is ∙ nth_map home_of script.clients c client e
@@ -104,7 +104,7 @@ runs_law script list told script_is is same all =
     let start : State = opening w is.opened.found in
     let moves = moves_are script list is same in
     let events : events_in_list list ≡ events_in_list is.told.past = ap events_in_list is.told.begins in record {
-      moves = subst (λ (z : State). LeadTo w start (events_in_list list) z) (sym (state_is script list is same)) (subst (λ (es : List Event). LeadTo w start es (led w start is.told.past)) (sym events) (moves_on w start is.told.past moves));
+      moves = subst (λ (z : State). LeadTo w start (events_in_list list) z) (sym (state_is script list is same)) (subst (λ (es : List Event). LeadTo w start es (after_all w start is.told.past)) (sym events) (moves_on w start is.told.past moves));
       calm = ap (list_any is_stop) events ∙ no_stops w start is.told.past moves;
       done = all_done w.homes (state_after list).sessions (done_each script list told is same all);
       leads = λ stood. ap (run script start) events ∙ (runs script start is.told.past moves (fit_is script list told is same all stood) ∙ ap Some (sym (state_is script list is same)));

@@ -17,7 +17,7 @@ use Rattle.hy_rules.specs.Moves.{Setting, State, Moves, after, enabled, is_begun
 use Rattle.hy_rules.specs.Runs.{setting_of as script_setting, suits, added as entries, step, run, is_done}
 use Rattle.hy_hub.specs.declared.mark.Occurrence.{Occurrence}
 use Rattle.hy_hub.specs.declared.mark.Occurrence.TheVariants.{Opened, Happened, Halted, Lifted, Landed}
-use Rattle.hy_hub.specs.Trace.{led, AreMoves}
+use Rattle.hy_hub.specs.Trace.{after_all, AreMoves}
 use Rattle.hy_hub.specs.Calls.{events_in_list}
 use Rattle.hy_base.proofs.NthLemmas.{left_of, both}
 use Rattle.hy_clients.specs.Finished.{LeadTo}
@@ -39,7 +39,7 @@ step_is script s event added can fits =
     ap (λ b. if b then Some (after (script_setting script) s event (entries script s event)) else None) (both (enabled (script_setting script) s event) (suits script s event) can fits.0)
     ∙ ap (λ (l : List EntryKind). Some (after (script_setting script) s event l)) (sym fits.1)
 
-pub runs : (script : Workload) (s : State) (marks : List Occurrence) → AreMoves (script_setting script) s marks → AreFit script s marks → run script s (events_in_list marks) ≡ Some (led (script_setting script) s marks)
+pub runs : (script : Workload) (s : State) (marks : List Occurrence) → AreMoves (script_setting script) s marks → AreFit script s marks → run script s (events_in_list marks) ≡ Some (after_all (script_setting script) s marks)
 runs script s [] all fit = refl
 runs script s (Opened o ∷ marks) all fit = absurd all
 runs script s (Halted at risen ∷ marks) all fit = runs script s marks all fit
@@ -58,7 +58,7 @@ no_stops w s (Landed ∷ marks) all = no_stops w s marks all
 no_stops w s (Happened event added ∷ marks) all = rw all.1 (no_stops w (after w s event added) marks all.2)
 
 -- each event is a move
-pub moves : (w : Setting) (s : State) (marks : List Occurrence) → AreMoves w s marks → LeadTo w s (events_in_list marks) (led w s marks)
+pub moves : (w : Setting) (s : State) (marks : List Occurrence) → AreMoves w s marks → LeadTo w s (events_in_list marks) (after_all w s marks)
 moves w s [] all = refl
 moves w s (Opened o ∷ marks) all = absurd all
 moves w s (Halted at risen ∷ marks) all = moves w s marks all

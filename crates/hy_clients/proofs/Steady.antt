@@ -12,7 +12,7 @@ use Rattle.hy_base.specs.Shape.{whole_groups}
 use Rattle.hy_rules.specs.Moves.{Setting, State, after, enabled, board_of, opening, is_declared, ends_whole_group, is_stop}
 use Rattle.hy_hub.specs.declared.mark.Occurrence.{Occurrence}
 use Rattle.hy_hub.specs.declared.mark.Occurrence.TheVariants.{Opened, Happened, Halted, Lifted, Landed}
-use Rattle.hy_hub.specs.Trace.{led, AreMoves}
+use Rattle.hy_hub.specs.Trace.{after_all, AreMoves}
 use Rattle.hy_base.proofs.NthLemmas.{right_of}
 use Rattle.hy_hub.proofs.Turns.{unarmed}
 
@@ -63,7 +63,7 @@ log_after w s (Pad c) added calm = rw calm (added, refl)
 log_after w s (Publish c q) added calm = ([], append-nil s.log)
 log_after w s (Stop call pattern) added calm = ([], append-nil s.log)
 
-pub log_led : (w : Setting) (s : State) (marks : List Occurrence) → AreMoves w s marks → s.armed ≡ None → IsPrefix s.log (led w s marks).log
+pub log_led : (w : Setting) (s : State) (marks : List Occurrence) → AreMoves w s marks → s.armed ≡ None → IsPrefix s.log (after_all w s marks).log
 log_led w s [] all calm = ([], append-nil s.log)
 log_led w s (Opened o ∷ marks) all calm = absurd all
 log_led w s (Halted at risen ∷ marks) all calm = log_led w s marks all calm

@@ -16,7 +16,7 @@ use Rattle.hy_rules.specs.Runs.{setting_of as script_setting, ended_by}
 use Rattle.hy_hub.specs.Origin.{Origin}
 use Rattle.hy_hub.specs.declared.mark.Occurrence.{Occurrence}
 use Rattle.hy_hub.specs.declared.mark.Occurrence.TheVariants.{Opened, Happened, Halted, Lifted, Landed}
-use Rattle.hy_hub.specs.Trace.{setting, led, AreMoves, state_after, setting_in}
+use Rattle.hy_hub.specs.Trace.{setting, after_all, AreMoves, state_after, setting_in}
 use Rattle.hy_hub.specs.Turns.{is_event_of}
 use Rattle.hy_hub.proofs.Told.{led_more}
 use Rattle.hy_clients.specs.declared.answered.Answered.{Answered}
@@ -42,7 +42,7 @@ AreFitOf script c s (Landed ∷ marks) = AreFitOf script c s marks
 pub record IsWalked (script : Workload) (c : ℕ) (s : State) (marks : List Occurrence) (x : Session) (told : List Answered) : Type 0 where
   pub fits : AreFitOf script c s marks
   pub ended : filter (is_end_of c) (endings script s marks) ≡ ends_of c x.next told
-  pub answers : AreAnswered script (led (script_setting script) s marks).log c x.next told
+  pub answers : AreAnswered script (after_all (script_setting script) s marks).log c x.next told
 
 none_left : (script : Workload) (c number : ℕ) (list : List Occurrence) (p : Phase) (told : List Answered) → Goes script c number list p [] told → told ≡ []
 none_left script c number list Idle [] goes = refl
@@ -55,7 +55,7 @@ longer s w event added snap calm within = let p = log_after w s event added calm
 -- one mark, and the walk behind it
 module _ (script : Workload) (c : ℕ) (list : List Occurrence) (k : ℕ) (s : State) (event : Event) (added : List EntryKind) (marks : List Occurrence) (x : Session) (told : List Answered)
     (here : IsAt script list k s) (steady : IsSteady s) (move : Moves (script_setting script) s event added (after (script_setting script) s event added)) (n : is_stop event ≡ false)
-    (at : nth s.sessions c ≡ Some x) (within : (snap : ℕ) → x.phase ≡ Begun snap → snap ≤ length s.log) (grows : IsPrefix s.log (led (script_setting script) (after (script_setting script) s event added) marks).log)
+    (at : nth s.sessions c ≡ Some x) (within : (snap : ℕ) → x.phase ≡ Begun snap → snap ≤ length s.log) (grows : IsPrefix s.log (after_all (script_setting script) (after (script_setting script) s event added) marks).log)
     (later : (y : Session) (left : List Answered) → nth (after (script_setting script) s event added).sessions c ≡ Some y → ((snap : ℕ) → y.phase ≡ Begun snap → snap ≤ length (after (script_setting script) s event added).log)
     → Goes script c y.next list y.phase (own_from c (suc k) marks) left → IsWalked script c (after (script_setting script) s event added) marks y left) where
   one_mark : (b : Bool) → is_event_of c event ≡ b → Goes script c x.next list x.phase (cond b ((k, Happened event added) ∷ own_from c (suc k) marks) (own_from c (suc k) marks)) told → IsWalked script c s (Happened event added ∷ marks) x told
@@ -74,10 +74,10 @@ module _ (script : Workload) (c : ℕ) (list : List Occurrence) (k : ℕ) (s : S
       record {
         fits = (λ own. t.fits, rest.fits);
         ended = filter-append (is_end_of c) (ended_by s event) (endings script (after w s event added) marks) ∙ ((λ i. own_ends s event c steady.calm own i ++ rest.ended i) ∙ t.ends);
-        answers = t.answers (led w (after w s event added) marks).log grows rest.answers;
+        answers = t.answers (after_all w (after w s event added) marks).log grows rest.answers;
       }
 
-is_at : (script : Workload) (o : Origin) (list front rest : List Occurrence) (k : ℕ) (s : State) → setting o ≡ script_setting script → list ≡ Opened o ∷ (front ++ rest) → suc (length front) ≡ k → led (setting o) (opening (setting o) o.found) front ≡ s → OpensStanding list → IsAt script list k s
+is_at : (script : Workload) (o : Origin) (list front rest : List Occurrence) (k : ℕ) (s : State) → setting o ≡ script_setting script → list ≡ Opened o ∷ (front ++ rest) → suc (length front) ≡ k → after_all (setting o) (opening (setting o) o.found) front ≡ s → OpensStanding list → IsAt script list k s
 is_at script o list front rest k s w is place leads stood =
     let front_is : take k list ≡ Opened o ∷ front = ap (λ n. take n list) (sym place) ∙ (ap (take (suc (length front))) is ∙ ap (λ (l : List Occurrence). Opened o ∷ l) (take-append_seam front rest)) in record {
       state = subst (λ (l : List Occurrence). state_after l ≡ s) (sym front_is) leads;
@@ -86,7 +86,7 @@ is_at script o list front rest k s w is place leads stood =
     }
 
 pub walk : (script : Workload) (c : ℕ) (o : Origin) (list front marks : List Occurrence) (k : ℕ) (s : State) (x : Session) (told : List Answered) → OpensStanding list → setting o ≡ script_setting script
-    → list ≡ Opened o ∷ (front ++ marks) → suc (length front) ≡ k → led (setting o) (opening (setting o) o.found) front ≡ s → AreMoves (script_setting script) s marks → IsSteady s → nth s.sessions c ≡ Some x
+    → list ≡ Opened o ∷ (front ++ marks) → suc (length front) ≡ k → after_all (setting o) (opening (setting o) o.found) front ≡ s → AreMoves (script_setting script) s marks → IsSteady s → nth s.sessions c ≡ Some x
     → ((snap : ℕ) → x.phase ≡ Begun snap → snap ≤ length s.log) → Goes script c x.next list x.phase (own_from c k marks) told → IsWalked script c s marks x told
 walk script c o list front [] k s x told stood w is place leads all steady at within goes =
     let none : told ≡ [] = none_left script c x.next list x.phase told goes in record {
@@ -109,7 +109,7 @@ walk script c o list front (Landed ∷ marks) k s x told stood w is place leads 
     record { fits = rest.fits; ended = rest.ended; answers = rest.answers }
 walk script c o list front (Happened event added ∷ marks) k s x told stood w is place leads all steady at within goes =
     let next : State = after (script_setting script) s event added in
-    let leads_on : led (setting o) (opening (setting o) o.found) (front ++ Happened event added ∷ []) ≡ next = led_more (setting o) (opening (setting o) o.found) front (Happened event added ∷ []) ∙ (λ i. after (w i) (leads i) event added) in
+    let leads_on : after_all (setting o) (opening (setting o) o.found) (front ++ Happened event added ∷ []) ≡ next = led_more (setting o) (opening (setting o) o.found) front (Happened event added ∷ []) ∙ (λ i. after (w i) (leads i) event added) in
     one_mark script c list k s event added marks x told (is_at script o list front (Happened event added ∷ marks) k s w is place leads stood) steady all.0 all.1 at within (log_led (script_setting script) s (Happened event added ∷ marks) all steady.calm)
     (λ y left at' within' goes'. walk script c o list (front ++ Happened event added ∷ []) marks (suc k) next y left stood w (is ∙ ap (λ (l : List Occurrence). Opened o ∷ l) (sym (append_assoc front (Happened event added ∷ []) marks)))
     (omega (arith, place, length-append front (Happened event added ∷ []))) leads_on all.2 (stays_steady (script_setting script) s event added all.0.may_happen all.1 steady) at' within' goes')

@@ -7,7 +7,7 @@ ghost use Rattle.hy_base.specs.Limits.{IsThreadCount};
 ghost use Rattle.hy_rules.specs.Runs.{setting_of as script_setting};
 ghost use Rattle.hy_hub.specs.Calls.{events_in_list};
 ghost use Rattle.hy_hub.specs.Close.{IsClosed};
-ghost use Rattle.hy_hub.specs.Outset.{IsOutset};
+ghost use Rattle.hy_hub.specs.Initial.{IsInitial};
 ghost use Rattle.hy_hub.specs.Trace.{setting_in, state_after};
 ghost use Rattle.hy_clients.specs.Passing.{IsRunPass, OpensInLog, opened_log, opened_start, opened_faults};
 ghost use Rattle.hy_clients.specs.Served.{AllServed};
@@ -184,7 +184,7 @@ pub fn run_clients<D: Disk + Send, R: Threads + Wait + Sync, G: Gate + Sync>(
     threads: usize,
     gate: &G,
 ) -> Result<Run<D>, Broken<D>>
-    requires outset { IsOutset D.tells log entries.items start script.now.servers (script_setting script.now).homes }
+    requires opens { IsInitial D.tells log entries.items start script.now.servers (script_setting script.now).homes }
     requires shape { start.shape ≡ script.now.shape }
     requires threads { IsThreadCount threads }
     ensures run { IfOk result (λ run. IsFinished D.tells script.now entries.items start run.events run.replies run.boards run.log) }

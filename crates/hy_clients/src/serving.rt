@@ -155,7 +155,7 @@ fn publish<D: Disk, R: Wait>(
 
 // A server publishes the log up to its last whole group, and so up to the client's last entry. It rolls nothing where another
 // task has published up to that entry meanwhile; so it doesn't where nothing is left to publish.
-pub(crate) fn catch_up<D: Disk, R: Threads + Wait + Sync, G: Gate + Sync>(
+pub(crate) fn publish_to<D: Disk, R: Threads + Wait + Sync, G: Gate + Sync>(
     rt: &R,
     alloc: Global,
     script: &Script,
@@ -225,7 +225,7 @@ fn begin_program<D: Disk, R: Threads + Wait + Sync, G: Gate + Sync>(
             Ok(begun) => return Ok(begun),
             Err(BeginRefusal::OutOfTurn { .. }) => {}
             Err(BeginRefusal::Behind { last, .. }) => {
-                catch_up(rt, alloc, script, hub, pass, server, last, threads, gate)?;
+                publish_to(rt, alloc, script, hub, pass, server, last, threads, gate)?;
             }
             Err(BeginRefusal::Memory) => return Err(Cut),
         }

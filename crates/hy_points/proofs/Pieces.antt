@@ -6,7 +6,7 @@ use Rattle.std.proofs.lemmas.List.{drop_at, take-append-le}
 use Rattle.std.proofs.lemmas.List.Concat.{flat_map-cons}
 use Rattle.std.proofs.lemmas.Grind.{flat_map-append}
 use Rattle.hy_formats.specs.Checkpoint.{Checkpoint}
-use Rattle.hy_formats.specs.PointFormat.{point_head_bytes, record_size, rest_of}
+use Rattle.hy_formats.specs.PointFormat.{point_head_bytes, point_record_size, rest_of}
 
 -- one item more
 pub one_more : {X : Type 0} (f : X → List ℕ) (xs : List X) (i : ℕ) (x : X) (start before after : List ℕ) → take (i + 1) xs ≡ take i xs ++ x ∷ [] → before ≡ start ++ flat_map f (take i xs) → after ≡ before ++ f x → after ≡ start ++ flat_map f (take (i + 1) xs)
@@ -27,14 +27,14 @@ head_pushed c start o1 o2 o3 end first second third fourth =
     ∙ append_assoc ((start ++ shape) ++ p) b n ∙ append_assoc (start ++ shape) p (b ++ n) ∙ append_assoc start shape (p ++ (b ++ n))
 
 -- how many zeros a record has
-pub zero_count : (size : ℕ) → 9 ≤ size → (size + 255) / 256 * 256 - size ≡ record_size (size - 9) - size
+pub zero_count : (size : ℕ) → 9 ≤ size → (size + 255) / 256 * 256 - size ≡ point_record_size (size - 9) - size
 zero_count size some = let same : 9 + (size - 9) + 255 ≡ size + 255 = omega arith in omega (arith, ap (λ (k : ℕ). k / 256) same)
 
 -- the length is written behind the gate, once the body and the zeros stand
-pub record_whole : (body start whole : List ℕ) → length start ≡ 9 → take 1 start ≡ 71 ∷ [] → whole ≡ (start ++ body) ++ replicate (record_size (length body) - (9 + length body)) 0
+pub record_whole : (body start whole : List ℕ) → length start ≡ 9 → take 1 start ≡ 71 ∷ [] → whole ≡ (start ++ body) ++ replicate (point_record_size (length body) - (9 + length body)) 0
     → take 1 whole ++ (to_le_bytes w64 (length body) ++ drop 9 whole) ≡ 71 ∷ rest_of body
 record_whole body start whole size gate is =
-    let zeros : List ℕ = replicate (record_size (length body) - (9 + length body)) 0 in
+    let zeros : List ℕ = replicate (point_record_size (length body) - (9 + length body)) 0 in
     let word : List ℕ = to_le_bytes w64 (length body) in
     let flat : whole ≡ start ++ (body ++ zeros) = is ∙ append_assoc start body zeros in
     let front : take 1 whole ≡ 71 ∷ [] = ap (take 1) flat ∙ take-append-le 1 start (body ++ zeros) (omega (arith, size)) ∙ gate in

@@ -17,7 +17,7 @@ use Rattle.hy_points.specs.declared.error.PointError.TheVariants as pointing
 use Rattle.hy_points.specs.declared.fields.Body.{Body}
 use Rattle.hy_points.specs.Reading.{FailsAt, DecodesAs, DecodesPoint, body_of}
 use Rattle.hy_formats.specs.Checkpoint.{Checkpoint, IsCheckpoint}
-use Rattle.hy_formats.specs.PointFormat.{IsStorable, body_bytes, record_size, point_bytes, whole_point_body, body_len_in, point_placed, filled_in, point_in}
+use Rattle.hy_formats.specs.PointFormat.{IsStorable, body_bytes, point_record_size, point_bytes, whole_point_body, body_len_in, point_placed, filled_in, point_in}
 use Rattle.hy_points.specs.Laws.{BeginsWith}
 use Rattle.hy_points.proofs.Bodies.{whole_takes, whole_again}
 
@@ -47,11 +47,11 @@ are_zeros_is (byte ∷ bytes) h =
     let rest = are_zeros_is bytes p.1 in λ i. first i ∷ rest i
 
 -- the record has room for its body
-pub room_for : (len : ℕ) → 9 + len ≤ record_size len
+pub room_for : (len : ℕ) → 9 + len ≤ point_record_size len
 room_for len = omega arith
 
 -- and takes a page at least
-pub record_is_page : (len : ℕ) → 256 ≤ record_size len
+pub record_is_page : (len : ℕ) → 256 ≤ point_record_size len
 record_is_page len = omega arith
 
 -- ---- reading
@@ -69,15 +69,15 @@ point_takes s bytes c shape are gate long e =
     let n : ℕ = a.0 in
     let b = bind_ok (point_placed n (whole_point_body s (take n (drop 9 bytes)))) (λ point. filled_in n bytes >>= λ fine. Ok point) c a.2 in
     let d = bind_ok (filled_in n bytes) (λ fine. Ok b.0) c b.2 in
-    let told = passed (nat_lt (length bytes) (record_size len)) (record { place = 1; why = damage.Short }) len n a.1 in
-    let within : record_size n ≤ length bytes = subst (λ (k : ℕ). record_size k ≤ length bytes) told.1 (ltb-false (length bytes) (record_size len) told.0) in
+    let told = passed (nat_lt (length bytes) (point_record_size len)) (record { place = 1; why = damage.Short }) len n a.1 in
+    let within : point_record_size n ≤ length bytes = subst (λ (k : ℕ). point_record_size k ≤ length bytes) told.1 (ltb-false (length bytes) (point_record_size len) told.0) in
     let room = room_for n in
     let body : List ℕ = take n (drop 9 bytes) in
     let body_size : length body ≡ n = omega (arith, length-take n (drop 9 bytes), length-drop 9 bytes, within, room) in
     let t = whole_takes s body b.0 shape (AreBytes-take n (drop 9 bytes) (AreBytes-drop 9 bytes are)) (placed_ok n (whole_point_body s body) b.0 b.1) in
     let text : body ≡ body_bytes b.0 = t.takes.parts ∙ append-nil (body_bytes b.0) in
     let text_size : length (body_bytes b.0) ≡ n = ap length (sym text) ∙ body_size in
-    let z : ℕ = record_size n - (9 + n) in
+    let z : ℕ = point_record_size n - (9 + n) in
     let fill : List ℕ = take z (drop (9 + n) bytes) in
     let fill_size : length fill ≡ z = omega (arith, length-take z (drop (9 + n) bytes), length-drop (9 + n) bytes, within, room) in
     let zeros : fill ≡ replicate z 0 = are_zeros_is fill (met (are_zeros fill) (record { place = 9 + n; why = damage.Fill }) tt d.0 d.1) ∙ ap (λ (k : ℕ). replicate k 0) fill_size in
@@ -90,7 +90,7 @@ point_takes s bytes c shape are gate long e =
     let regrouped : 71 ∷ (to_le_bytes w64 n ++ (body_bytes b.0 ++ (replicate z 0 ++ more))) ≡ point_bytes b.0 ++ more =
     ap (λ (l : List ℕ). 71 ∷ l) (
     ap (λ (l : List ℕ). to_le_bytes w64 n ++ l) (sym (append_assoc (body_bytes b.0) (replicate z 0) more)) ∙ sym (append_assoc (to_le_bytes w64 n) (body_bytes b.0 ++ replicate z 0) more)
-    ∙ ap (λ (k : ℕ). (to_le_bytes w64 k ++ (body_bytes b.0 ++ replicate (record_size k - (9 + k)) 0)) ++ more) (sym text_size)
+    ∙ ap (λ (k : ℕ). (to_le_bytes w64 k ++ (body_bytes b.0 ++ replicate (point_record_size k - (9 + k)) 0)) ++ more) (sym text_size)
     ) in
     let fits : length (body_bytes b.0) < 2 ^ 64 = omega (arith, text_size, ap (λ (k : ℕ). k) told.1, wide64.below word (AreBytes-take 8 (drop 1 bytes) (AreBytes-drop 1 bytes are))) in
     subst (λ (k : Checkpoint). BeginsWith s k bytes) (ok_is b.0 c d.2) (record {
@@ -115,7 +115,7 @@ pub point_again : (c : Checkpoint) (more : List ℕ) → IsCheckpoint c → IsSt
 point_again c more is fits =
     let body : List ℕ = body_bytes c in
     let n : ℕ = length body in
-    let z : ℕ = record_size n - (9 + n) in
+    let z : ℕ = point_record_size n - (9 + n) in
     let word : List ℕ = to_le_bytes w64 n in
     let zeros : List ℕ = replicate z 0 in
     let bytes : List ℕ = point_bytes c ++ more in
@@ -126,8 +126,8 @@ point_again c more is fits =
     let zeros_size : length zeros ≡ z = length-replicate z 0 in
     let size : length (drop 1 bytes) ≡ 8 + (n + (z + length more)) = ap length regrouped ∙ omega (arith, length-append word (body ++ (zeros ++ more)), length-append body (zeros ++ more), length-append zeros more, zeros_size) in
     let whole : length bytes ≡ 9 + (n + (z + length more)) = omega (arith, size, length-drop 1 bytes) in
-    let long : nat_lt (length bytes) (record_size n) ≡ false = le-ltb _ _ (omega (arith, whole)) in
-    let told : body_len_in bytes ≡ Ok n = ap (λ (k : ℕ). cond (nat_lt (length bytes) (record_size k)) (Err (record { place = 1; why = damage.Short })) (Ok k)) len_is ∙ ap (λ (b : Bool). cond b (Err (record { place = 1; why = damage.Short })) (Ok n)) long in
+    let long : nat_lt (length bytes) (point_record_size n) ≡ false = le-ltb _ _ (omega (arith, whole)) in
+    let told : body_len_in bytes ≡ Ok n = ap (λ (k : ℕ). cond (nat_lt (length bytes) (point_record_size k)) (Err (record { place = 1; why = damage.Short })) (Ok k)) len_is ∙ ap (λ (b : Bool). cond b (Err (record { place = 1; why = damage.Short })) (Ok n)) long in
     let body_is : take n (drop 9 bytes) ≡ body = ap (take n) behind ∙ take_at body (zeros ++ more) n refl in
     let fill_is : take z (drop (9 + n) bytes) ≡ zeros = ap (take z) (sym (drop-drop n 9 bytes) ∙ ap (drop n) behind ∙ drop_at body (zeros ++ more) n refl) ∙ take_at zeros more z zeros_size in
     let filled : filled_in n bytes ≡ Ok tt = ap (λ (b : Bool). cond b (Ok tt) (Err (record { place = 9 + n; why = damage.Fill }))) (ap are_zeros fill_is ∙ zeros_are z) in
@@ -143,7 +143,7 @@ refused_body s bytes n (pointing.BadPoint bad) len fails =
     ap (λ (r : Result ℕ BadPoint). r >>= λ n. point_placed n (whole_point_body s (take n (drop 9 bytes))) >>= λ point. filled_in n bytes >>= λ fine. Ok point) (sym len)
     ∙ ap (λ (r : Result Checkpoint BadPoint). r >>= λ point. filled_in n bytes >>= λ fine. Ok point) fails
 
-pub record_fails : (s : Shape) (bytes : List ℕ) (n m : ℕ) (e : PointError) → m ≡ n → record_size n ≤ length bytes → Ok n ≡ body_len_in bytes
+pub record_fails : (s : Shape) (bytes : List ℕ) (n m : ℕ) (e : PointError) → m ≡ n → point_record_size n ≤ length bytes → Ok n ≡ body_len_in bytes
     → FailsAt e (point_placed (length (take m (drop 9 bytes))) (whole_point_body s (take m (drop 9 bytes)))) → FailsAt e (point_in s bytes)
 record_fails s bytes n m e same within len fails =
     let size : length (take n (drop 9 bytes)) ≡ n = omega (arith, length-take n (drop 9 bytes), length-drop 9 bytes, within, room_for n) in
@@ -167,11 +167,11 @@ abbrev done : Checkpoint → Result Checkpoint BadPoint
 done c = Ok c
 
 -- how many bytes a point's record has
-pub point_size : (c : Checkpoint) → length (point_bytes c) ≡ record_size (length (body_bytes c))
+pub point_size : (c : Checkpoint) → length (point_bytes c) ≡ point_record_size (length (body_bytes c))
 point_size c =
     let n = length (body_bytes c) in
-    let zeros : List ℕ = replicate (record_size n - (9 + n)) 0 in
-    omega (arith, length-append (to_le_bytes w64 n) (body_bytes c ++ zeros), length-append (body_bytes c) zeros, length-replicate {A = ℕ} (record_size n - (9 + n)) 0, room_for n)
+    let zeros : List ℕ = replicate (point_record_size n - (9 + n)) 0 in
+    omega (arith, length-append (to_le_bytes w64 n) (body_bytes c ++ zeros), length-append (body_bytes c) zeros, length-replicate {A = ℕ} (point_record_size n - (9 + n)) 0, room_for n)
 
 pub one_spelling : (c d : Checkpoint) (x y : List ℕ) → IsCheckpoint c → IsStorable c → IsCheckpoint d → IsStorable d → c.shape ≡ d.shape → point_bytes c ++ x ≡ point_bytes d ++ y → (c ≡ d) × (x ≡ y)
 one_spelling c d x y c_is c_fits d_is d_fits shape same =

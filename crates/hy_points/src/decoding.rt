@@ -4,7 +4,7 @@ ghost use Rattle.hy_base.specs.Rows.{IsOrdered};
 ghost use Rattle.hy_base.specs.Shape.{IsGoodShape};
 ghost use Rattle.hy_formats.specs.LogFormat.{are_zeros, byte_at};
 ghost use Rattle.hy_formats.specs.Checkpoint.{Checkpoint, IsCheckpoint};
-ghost use Rattle.hy_formats.specs.PointFormat.{record_size, body_len_in, whole_point_body, point_placed, filled_in, point_in};
+ghost use Rattle.hy_formats.specs.PointFormat.{point_record_size, body_len_in, whole_point_body, point_placed, filled_in, point_in};
 ghost use Rattle.hy_formats.specs.declared.damage.BadPoint.{BadPoint};
 ghost use Rattle.hy_points.specs.Reading.{DecodesPoint, DecodesAs, body_of};
 ghost use Rattle.hy_points.specs.Laws.{BeginsWith};
@@ -23,7 +23,7 @@ use std::alloc::{AllocError, Global};
 fn body_len_in(bytes: &[u8]) -> Result<usize, BadPoint>
     requires { 9 ≤ length bytes.now }
     ensures read { result ≡ body_len_in bytes.now }
-    ensures within { IfOk result (λ len. record_size len ≤ length bytes.now) }
+    ensures within { IfOk result (λ len. point_record_size len ≤ length bytes.now) }
 {
     let short = BadPoint {
         place: 1,
@@ -64,7 +64,7 @@ fn are_zeros(bytes: &[u8]) -> bool
 
 // Behind a body of this length the record has zeros.
 fn filled_in(len: usize, bytes: &[u8]) -> Result<(), BadPoint>
-    requires { record_size len ≤ length bytes.now }
+    requires { point_record_size len ≤ length bytes.now }
     ensures { result ≡ filled_in len bytes.now }
 {
     let end = (9 + len + 255) / 256 * 256;

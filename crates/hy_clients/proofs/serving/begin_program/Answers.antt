@@ -9,7 +9,7 @@ returns-in-Ok-clause-begun g c =
 
 pub loop-preserved : goal.loop-preserved
 loop-preserved g c = (
-  c.catch_up.ensures.pass,
-  quiet_then c.args.client c.args.pass.now c.loop.pass c.catch_up.new.pass [] c.loop.invariant.1
-      (quiet_then c.args.client c.loop.pass c.begin_once.new.pass c.catch_up.new.pass [] c.in-Err-Behind.ensures.not (c.catch_up.ensures.goes c.args.client)),
+  c.publish_to.ensures.pass,
+  quiet_then c.args.client c.args.pass.now c.loop.pass c.publish_to.new.pass [] c.loop.invariant.1
+      (quiet_then c.args.client c.loop.pass c.begin_once.new.pass c.publish_to.new.pass [] c.in-Err-Behind.ensures.not (c.publish_to.ensures.goes c.args.client)),
 )
