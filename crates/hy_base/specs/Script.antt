@@ -5,6 +5,7 @@ use Rattle.hy_base.specs.declared.workload.Command.{Command}
 use Rattle.hy_base.specs.declared.workload.Command.TheVariants.{Get, Put, Del, Add, Scan}
 use Rattle.hy_base.specs.declared.workload.Program.{Program}
 use Rattle.hy_base.specs.declared.workload.Client.{Client}
+use Rattle.hy_base.specs.Limits.{IsServerNumber}
 use Rattle.hy_base.specs.Shape.{IsWithin, IsGoodShape}
 use Rattle.hy_base.specs.Value.{IsValue}
 
@@ -37,6 +38,6 @@ client_count clients server = count_by (λ c. c.server == server) clients
 
 pub record IsScript (s : Workload) : Type 0 where
   pub shape : IsGoodShape s.shape
-  pub servers : IsWithin 1 8 s.servers
+  pub servers : IsServerNumber s.servers
   pub clients : All (IsClient s.servers) s.clients
   pub client_count : (server : ℕ) → client_count s.clients server ≤ 16
