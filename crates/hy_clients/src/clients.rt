@@ -18,6 +18,7 @@ use crate::closing::bring_to_end;
 use crate::homes::homes_of;
 use crate::laws::{replies_are_told, served_lists_are_runs};
 use crate::replies::all_replies;
+use crate::service::Service;
 use crate::serving::Cut;
 use crate::task::serve_all;
 use hy_base::{Entry, Items, Replies, Script, Shared};
@@ -131,7 +132,14 @@ fn serve_to_end<D: Disk + Send, R: Threads + Wait + Sync, G: Gate + Sync>(
     ensures ends { IfOk result (λ _. list_all (λ board. board == length (state_after pass.new.seen).log) (state_after pass.new.seen).boards ≡ true) }
 {
     let told = serve_all(rt, alloc, script, hub, pass, threads, gate)?;
-    bring_to_end(rt, alloc, script, hub, pass, threads, gate)?;
+    let service = Service {
+        alloc,
+        script,
+        hub,
+        threads,
+        gate,
+    };
+    bring_to_end(rt, &service, pass)?;
     Ok(told)
 }
 

@@ -9,46 +9,40 @@ ghost use Rattle.hy_hub.specs.Calls.{len_of};
 ghost use Rattle.hy_hub.specs.Trace.{state_after};
 ghost use Rattle.hy_clients.specs.Passing.{IsRunPass};
 
+use crate::service::Service;
 use crate::serving::Cut;
-use hy_base::Script;
 use hy_disk::Disk;
 use hy_hist::Pass;
-use hy_hub::{Contents, Hub, PadRefusal, PublishRefusal};
+use hy_hub::{Contents, PadRefusal, PublishRefusal};
 use hy_pipe::Gate;
-use std::alloc::Global;
 use std::sync::Wait;
 use std::thread::Threads;
 
 // A server publishes the log up to its end, where it hasn't.
 fn publish_end<D: Disk, R: Threads + Wait + Sync, G: Gate + Sync>(
     rt: &R,
-    alloc: Global,
-    script: &Script,
-    hub: &Hub<D>,
+    service: &Service<'_, D, G>,
     pass: &mut Pass<Contents<D>>,
     server: u8,
-    threads: usize,
-    gate: &G,
 ) -> Result<(), Cut>
-    requires pass { IsRunPass hub.now script.now pass.old }
-    requires all { pass.old.parts ≡ hub.now.parts }
-    requires server { IsWithin 1 script.now.servers server }
-    requires even { len_of pass.old.seen % script.now.shape.group ≡ 0 }
-    requires threads { IsThreadCount threads }
-    ensures pass { IsRunPass hub.now script.now pass.new }
+    requires pass { IsRunPass service.now.hub.now service.now.script.now pass.old }
+    requires all { pass.old.parts ≡ service.now.hub.now.parts }
+    requires server { IsWithin 1 service.now.script.now.servers server }
+    requires even { len_of pass.old.seen % service.now.script.now.shape.group ≡ 0 }
+    requires threads { IsThreadCount service.now.threads }
+    ensures pass { IsRunPass service.now.hub.now service.now.script.now pass.new }
     ensures parts { pass.new.parts ≡ pass.old.parts }
     ensures grown { IsPrefix pass.old.seen pass.new.seen }
     ensures log { (state_after pass.new.seen).log ≡ (state_after pass.old.seen).log }
     ensures ends { OnOk result ((state_after pass.new.seen).boards ≡ change_nth (λ _. len_of pass.old.seen) (state_after pass.old.seen).boards server) }
 {
-    let _ = script;
-    let look = hub.look(rt, pass, server)?;
+    let look = service.hub.look(rt, pass, server)?;
     let entries = look.entries.as_slice();
     if entries.is_empty() {
         return Ok(());
     }
-    let rolled = look.roller.roll(rt, alloc, entries, threads, gate)?;
-    match hub.publish(rt, pass, server, rolled) {
+    let rolled = look.roller.roll(rt, service.alloc, entries, service.threads, service.gate)?;
+    match service.hub.publish(rt, pass, server, rolled) {
         Ok(()) => Ok(()),
         Err(PublishRefusal::Stale { .. }) => Ok(()),
         Err(PublishRefusal::Memory) => Err(Cut),
@@ -58,23 +52,19 @@ fn publish_end<D: Disk, R: Threads + Wait + Sync, G: Gate + Sync>(
 /// Completes the last group as the first server, and brings each server to the log's end, in ascending order.
 pub(crate) fn bring_to_end<D: Disk, R: Threads + Wait + Sync, G: Gate + Sync>(
     rt: &R,
-    alloc: Global,
-    script: &Script,
-    hub: &Hub<D>,
+    service: &Service<'_, D, G>,
     pass: &mut Pass<Contents<D>>,
-    threads: usize,
-    gate: &G,
 ) -> Result<(), Cut>
-    requires pass { IsRunPass hub.now script.now pass.old }
-    requires all { pass.old.parts ≡ hub.now.parts }
-    requires threads { IsThreadCount threads }
-    ensures pass { IsRunPass hub.now script.now pass.new }
+    requires pass { IsRunPass service.now.hub.now service.now.script.now pass.old }
+    requires all { pass.old.parts ≡ service.now.hub.now.parts }
+    requires threads { IsThreadCount service.now.threads }
+    ensures pass { IsRunPass service.now.hub.now service.now.script.now pass.new }
     ensures parts { pass.new.parts ≡ pass.old.parts }
     ensures grown { IsPrefix pass.old.seen pass.new.seen }
     ensures ends { OnOk result (list_all (λ board. board == length (state_after pass.new.seen).log) (state_after pass.new.seen).boards ≡ true) }
 {
-    let servers = script.servers();
-    match hub.pad(rt, pass, 1) {
+    let servers = service.script.servers();
+    match service.hub.pad(rt, pass, 1) {
         Ok(_) => {}
         Err(PadRefusal::Even) => {}
         Err(PadRefusal::Memory) => return Err(Cut),
@@ -82,7 +72,7 @@ pub(crate) fn bring_to_end<D: Disk, R: Threads + Wait + Sync, G: Gate + Sync>(
         Err(PadRefusal::Device) => return Err(Cut),
     }
     for at in 0..servers {
-        publish_end(rt, alloc, script, hub, pass, at + 1, threads, gate)?;
+        publish_end(rt, service, pass, at + 1)?;
     }
     Ok(())
 }

@@ -12,6 +12,7 @@ mod closing;
 mod homes;
 mod laws;
 mod replies;
+mod service;
 mod serving;
 mod task;
 

@@ -12,16 +12,16 @@ ghost use Rattle.hy_clients.specs.Programs.{AreServed};
 ghost use Rattle.hy_clients.specs.Serving.{AreLive, Begins, EndsServed, EndsBy, EndsReading, IsServedClient, IsOwnEnd, Serves, Takes};
 
 use crate::answered::{Answered, End};
+use crate::service::Service;
 use hy_base::{Client, Entry, Pos, Program, Script};
 use hy_disk::Disk;
 use hy_exec::{Executed, Finished, run_program};
 use hy_hist::Pass;
 use hy_hub::{
-    AppendRefusal, Backlog, BeginRefusal, Begun, Contents, EndRefusal, Hub, PadRefusal,
-    PublishRefusal,
+    AppendRefusal, Backlog, BeginRefusal, Begun, Contents, EndRefusal, PadRefusal, PublishRefusal,
 };
 use hy_pipe::{Gate, Roller};
-use std::alloc::{AllocError, AllocFailed, Global};
+use std::alloc::{AllocError, AllocFailed};
 use std::sync::Wait;
 use std::thread::Threads;
 
@@ -42,20 +42,18 @@ impl<T: Drop> From<AllocFailed<T>> for Cut {
 }
 
 // Completes the last group, where it isn't whole.
-fn complete_group<D: Disk, R: Wait>(
+fn complete_group<D: Disk, R: Wait, G>(
     rt: &R,
-    script: &Script,
-    hub: &Hub<D>,
+    service: &Service<'_, D, G>,
     pass: &mut Pass<Contents<D>>,
     server: u8,
 ) -> Result<(), Cut>
-    requires pass { IsRunPass hub.now script.now pass.old }
-    requires server { IsWithin 1 script.now.servers server }
-    ensures pass { IsRunPass hub.now script.now pass.new }
+    requires pass { IsRunPass service.now.hub.now service.now.script.now pass.old }
+    requires server { IsWithin 1 service.now.script.now.servers server }
+    ensures pass { IsRunPass service.now.hub.now service.now.script.now pass.new }
     ensures goes { (client : ℕ) → GoesOn client pass.old pass.new [] }
 {
-    let _ = script;
-    match hub.pad(rt, pass, server) {
+    match service.hub.pad(rt, pass, server) {
         Ok(_) => Ok(()),
         Err(PadRefusal::Even) => Ok(()),
         Err(PadRefusal::Memory) => Err(Cut),
@@ -65,21 +63,19 @@ fn complete_group<D: Disk, R: Wait>(
 }
 
 // The roller of the server's board, and the entries past it that make whole groups.
-fn look_on<D: Disk, R: Wait>(
+fn look_on<D: Disk, R: Wait, G>(
     rt: &R,
-    script: &Script,
-    hub: &Hub<D>,
+    service: &Service<'_, D, G>,
     pass: &mut Pass<Contents<D>>,
     server: u8,
 ) -> Result<Backlog, AllocError>
-    requires pass { IsRunPass hub.now script.now pass.old }
-    requires server { IsWithin 1 script.now.servers server }
-    ensures pass { IsRunPass hub.now script.now pass.new }
+    requires pass { IsRunPass service.now.hub.now service.now.script.now pass.old }
+    requires server { IsWithin 1 service.now.script.now.servers server }
+    ensures pass { IsRunPass service.now.hub.now service.now.script.now pass.new }
     ensures goes { (client : ℕ) → GoesOn client pass.old pass.new [] }
     ensures rolls { IfOk result (λ look. IsRollable pass.new.seen look) }
 {
-    let _ = script;
-    hub.look(rt, pass, server)
+    service.hub.look(rt, pass, server)
 }
 
 // Whether the whole groups reach a position.
@@ -89,64 +85,60 @@ fn reaches(look: &Backlog, at: Pos) -> bool {
 }
 
 // The same, once the last group is whole.
-fn look_whole<D: Disk, R: Wait>(
+fn look_whole<D: Disk, R: Wait, G>(
     rt: &R,
-    script: &Script,
-    hub: &Hub<D>,
+    service: &Service<'_, D, G>,
     pass: &mut Pass<Contents<D>>,
     server: u8,
 ) -> Result<Backlog, Cut>
-    requires pass { IsRunPass hub.now script.now pass.old }
-    requires server { IsWithin 1 script.now.servers server }
-    ensures pass { IsRunPass hub.now script.now pass.new }
+    requires pass { IsRunPass service.now.hub.now service.now.script.now pass.old }
+    requires server { IsWithin 1 service.now.script.now.servers server }
+    ensures pass { IsRunPass service.now.hub.now service.now.script.now pass.new }
     ensures goes { (client : ℕ) → GoesOn client pass.old pass.new [] }
     ensures rolls { IfOk result (λ look. IsRollable pass.new.seen look) }
 {
-    complete_group(rt, script, hub, pass, server)?;
-    let look = look_on(rt, script, hub, pass, server)?;
+    complete_group(rt, service, pass, server)?;
+    let look = look_on(rt, service, pass, server)?;
     Ok(look)
 }
 
 // The same, where the last group is completed only if the position lies in it.
-fn look_to<D: Disk, R: Wait>(
+fn look_to<D: Disk, R: Wait, G>(
     rt: &R,
-    script: &Script,
-    hub: &Hub<D>,
+    service: &Service<'_, D, G>,
     pass: &mut Pass<Contents<D>>,
     server: u8,
     at: Pos,
 ) -> Result<Backlog, Cut>
-    requires pass { IsRunPass hub.now script.now pass.old }
-    requires server { IsWithin 1 script.now.servers server }
-    ensures pass { IsRunPass hub.now script.now pass.new }
+    requires pass { IsRunPass service.now.hub.now service.now.script.now pass.old }
+    requires server { IsWithin 1 service.now.script.now.servers server }
+    ensures pass { IsRunPass service.now.hub.now service.now.script.now pass.new }
     ensures goes { (client : ℕ) → GoesOn client pass.old pass.new [] }
     ensures rolls { IfOk result (λ look. IsRollable pass.new.seen look) }
 {
-    let look = look_on(rt, script, hub, pass, server)?;
+    let look = look_on(rt, service, pass, server)?;
     if reaches(&look, at) {
         return Ok(look);
     }
-    look_whole(rt, script, hub, pass, server)
+    look_whole(rt, service, pass, server)
 }
 
 // Puts the server's board on to a roller's position, where it isn't that far.
-fn publish<D: Disk, R: Wait>(
+fn publish<D: Disk, R: Wait, G>(
     rt: &R,
-    script: &Script,
-    hub: &Hub<D>,
+    service: &Service<'_, D, G>,
     pass: &mut Pass<Contents<D>>,
     server: u8,
     roller: Roller,
 ) -> Result<(), Cut>
-    requires pass { IsRunPass hub.now script.now pass.old }
-    requires server { IsWithin 1 script.now.servers server }
+    requires pass { IsRunPass service.now.hub.now service.now.script.now pass.old }
+    requires server { IsWithin 1 service.now.script.now.servers server }
     requires within { rolled_upto roller ≤ len_of pass.old.seen }
     requires stands { IsRollerOf pass.old.seen (rolled_upto roller) roller }
-    ensures pass { IsRunPass hub.now script.now pass.new }
+    ensures pass { IsRunPass service.now.hub.now service.now.script.now pass.new }
     ensures goes { (client : ℕ) → GoesOn client pass.old pass.new [] }
 {
-    let _ = script;
-    match hub.publish(rt, pass, server, roller) {
+    match service.hub.publish(rt, pass, server, roller) {
         Ok(()) => Ok(()),
         Err(PublishRefusal::Stale { .. }) => Ok(()),
         Err(PublishRefusal::Memory) => Err(Cut),
@@ -157,75 +149,65 @@ fn publish<D: Disk, R: Wait>(
 // task has published up to that entry meanwhile; so it doesn't where nothing is left to publish.
 pub(crate) fn publish_to<D: Disk, R: Threads + Wait + Sync, G: Gate + Sync>(
     rt: &R,
-    alloc: Global,
-    script: &Script,
-    hub: &Hub<D>,
+    service: &Service<'_, D, G>,
     pass: &mut Pass<Contents<D>>,
     server: u8,
     last: Pos,
-    threads: usize,
-    gate: &G,
 ) -> Result<(), Cut>
-    requires pass { IsRunPass hub.now script.now pass.old }
-    requires server { IsWithin 1 script.now.servers server }
-    requires threads { IsThreadCount threads }
-    ensures pass { IsRunPass hub.now script.now pass.new }
+    requires pass { IsRunPass service.now.hub.now service.now.script.now pass.old }
+    requires server { IsWithin 1 service.now.script.now.servers server }
+    requires threads { IsThreadCount service.now.threads }
+    ensures pass { IsRunPass service.now.hub.now service.now.script.now pass.new }
     ensures goes { (client : ℕ) → GoesOn client pass.old pass.new [] }
 {
-    let look = look_to(rt, script, hub, pass, server, last)?;
+    let look = look_to(rt, service, pass, server, last)?;
     if last <= look.roller.at() {
         return Ok(());
     }
     let entries = look.entries.as_slice();
-    let rolled = look.roller.roll(rt, alloc, entries, threads, gate)?;
-    publish(rt, script, hub, pass, server, rolled)
+    let rolled = look.roller.roll(rt, service.alloc, entries, service.threads, service.gate)?;
+    publish(rt, service, pass, server, rolled)
 }
 
 // Begins the client's next program, where it may begin.
-fn begin_once<D: Disk, R: Wait>(
+fn begin_once<D: Disk, R: Wait, G>(
     rt: &R,
-    script: &Script,
-    hub: &Hub<D>,
+    service: &Service<'_, D, G>,
     pass: &mut Pass<Contents<D>>,
     client: u8,
 ) -> Result<Begun, BeginRefusal>
-    requires pass { IsRunPass hub.now script.now pass.old }
-    requires client { IsWithin 1 (length script.now.clients) client }
-    ensures pass { IsRunPass hub.now script.now pass.new }
+    requires pass { IsRunPass service.now.hub.now service.now.script.now pass.old }
+    requires client { IsWithin 1 (length service.now.script.now.clients) client }
+    ensures pass { IsRunPass service.now.hub.now service.now.script.now pass.new }
     ensures parts { pass.new.parts ≡ pass.old.parts }
-    ensures begun { IfOk result (Begins script.now client pass.old pass.new) }
+    ensures begun { IfOk result (Begins service.now.script.now client pass.old pass.new) }
     ensures not { OnErr result (GoesOn client pass.old pass.new []) }
 {
-    let _ = script;
-    hub.begin(rt, pass, client)
+    service.hub.begin(rt, pass, client)
 }
 
 // Begins the client's next program, once its server has published the client's last entry.
 fn begin_program<D: Disk, R: Threads + Wait + Sync, G: Gate + Sync>(
     rt: &R,
-    alloc: Global,
-    script: &Script,
-    hub: &Hub<D>,
+    service: &Service<'_, D, G>,
     pass: &mut Pass<Contents<D>>,
     server: u8,
     client: u8,
-    threads: usize,
-    gate: &G,
 ) -> Result<Begun, Cut>
-    requires pass { IsRunPass hub.now script.now pass.old }
-    requires server { IsWithin 1 script.now.servers server }
-    requires client { IsWithin 1 (length script.now.clients) client }
-    requires threads { IsThreadCount threads }
-    ensures pass { IsRunPass hub.now script.now pass.new }
+    requires pass { IsRunPass service.now.hub.now service.now.script.now pass.old }
+    requires server { IsWithin 1 service.now.script.now.servers server }
+    requires client { IsWithin 1 (length service.now.script.now.clients) client }
+    requires threads { IsThreadCount service.now.threads }
+    ensures pass { IsRunPass service.now.hub.now service.now.script.now pass.new }
     ensures parts { pass.new.parts ≡ pass.old.parts }
-    ensures begun { IfOk result (Begins script.now client pass.old pass.new) }
+    ensures begun { IfOk result (Begins service.now.script.now client pass.old pass.new) }
 {
     for _ in rt.forever() {
-        match begin_once(rt, script, hub, pass, client) {
+        match begin_once(rt, service, pass, client) {
             Ok(begun) => return Ok(begun),
             Err(BeginRefusal::OutOfTurn { .. }) => {}
             Err(BeginRefusal::Behind { last, .. }) => {
-                publish_to(rt, alloc, script, hub, pass, server, last, threads, gate)?;
+                publish_to(rt, service, pass, server, last)?;
             }
             Err(BeginRefusal::Memory) => return Err(Cut),
         }
@@ -234,22 +216,20 @@ fn begin_program<D: Disk, R: Threads + Wait + Sync, G: Gate + Sync>(
 }
 
 // Ends the client's program, which only read. None where the client is out of turn.
-fn end_reading<D: Disk, R: Wait>(
+fn end_reading<D: Disk, R: Wait, G>(
     rt: &R,
-    script: &Script,
-    hub: &Hub<D>,
+    service: &Service<'_, D, G>,
     pass: &mut Pass<Contents<D>>,
     client: u8,
 ) -> Result<Option<End>, Cut>
-    requires pass { IsRunPass hub.now script.now pass.old }
-    requires client { IsWithin 1 (length script.now.clients) client }
-    ensures pass { IsRunPass hub.now script.now pass.new }
+    requires pass { IsRunPass service.now.hub.now service.now.script.now pass.old }
+    requires client { IsWithin 1 (length service.now.script.now.clients) client }
+    ensures pass { IsRunPass service.now.hub.now service.now.script.now pass.new }
     ensures parts { pass.new.parts ≡ pass.old.parts }
     ensures ended { (end : _) → result ≡ Ok (Some end) → (end ≡ End.Reading) × EndsReading client pass.old pass.new }
     ensures not { result ≡ Ok None → GoesOn client pass.old pass.new [] }
 {
-    let _ = script;
-    match hub.end(rt, pass, client) {
+    match service.hub.end(rt, pass, client) {
         Ok(()) => Ok(Some(End::Reading)),
         Err(EndRefusal::OutOfTurn { .. }) => Ok(None),
         Err(EndRefusal::Memory) => Err(Cut),
@@ -257,24 +237,22 @@ fn end_reading<D: Disk, R: Wait>(
 }
 
 // Appends the entry of the client's program, where the log isn't full. None where the client is out of turn.
-fn append_entry<D: Disk, R: Wait>(
+fn append_entry<D: Disk, R: Wait, G>(
     rt: &R,
-    script: &Script,
-    hub: &Hub<D>,
+    service: &Service<'_, D, G>,
     pass: &mut Pass<Contents<D>>,
     client: u8,
     entry: Entry,
 ) -> Result<Option<End>, Cut>
-    requires pass { IsRunPass hub.now script.now pass.old }
-    requires client { IsWithin 1 (length script.now.clients) client }
+    requires pass { IsRunPass service.now.hub.now service.now.script.now pass.old }
+    requires client { IsWithin 1 (length service.now.script.now.clients) client }
     requires own { IsEntryOf client pass.old.seen entry }
-    ensures pass { IsRunPass hub.now script.now pass.new }
+    ensures pass { IsRunPass service.now.hub.now service.now.script.now pass.new }
     ensures parts { pass.new.parts ≡ pass.old.parts }
     ensures taken { (end : _) → result ≡ Ok (Some end) → Takes client entry pass.old pass.new end }
     ensures not { result ≡ Ok None → GoesOn client pass.old pass.new [] }
 {
-    let _ = script;
-    match hub.append(rt, pass, client, entry) {
+    match service.hub.append(rt, pass, client, entry) {
         Ok(pos) => Ok(Some(End::EntryAt { pos })),
         Err(AppendRefusal::Full) => Ok(Some(End::FullLog)),
         Err(AppendRefusal::OutOfTurn { .. }) => Ok(None),
@@ -285,34 +263,31 @@ fn append_entry<D: Disk, R: Wait>(
 }
 
 // Ends a program that has run, by its entry where it wrote. None where the client is out of turn.
-fn end_program<D: Disk, R: Wait>(
+fn end_program<D: Disk, R: Wait, G>(
     rt: &R,
-    script: &Script,
-    hub: &Hub<D>,
+    service: &Service<'_, D, G>,
     pass: &mut Pass<Contents<D>>,
     client: u8,
     finished: Finished,
 ) -> Result<Option<End>, Cut>
-    requires pass { IsRunPass hub.now script.now pass.old }
-    requires client { IsWithin 1 (length script.now.clients) client }
+    requires pass { IsRunPass service.now.hub.now service.now.script.now pass.old }
+    requires client { IsWithin 1 (length service.now.script.now.clients) client }
     requires own { IsOwnEnd client pass.old.seen finished }
-    ensures pass { IsRunPass hub.now script.now pass.new }
+    ensures pass { IsRunPass service.now.hub.now service.now.script.now pass.new }
     ensures parts { pass.new.parts ≡ pass.old.parts }
     ensures ended { (end : _) → result ≡ Ok (Some end) → EndsBy client finished pass.old pass.new end }
     ensures not { result ≡ Ok None → GoesOn client pass.old pass.new [] }
 {
     match finished {
-        Finished::ReadOnly(_) => end_reading(rt, script, hub, pass, client),
-        Finished::Entry(entry) => append_entry(rt, script, hub, pass, client, entry),
+        Finished::ReadOnly(_) => end_reading(rt, service, pass, client),
+        Finished::Entry(entry) => append_entry(rt, service, pass, client, entry),
     }
 }
 
 // Runs a begun program on its snapshot, and ends it. None where the client is out of turn.
-fn run_once<D: Disk, R: Wait>(
+fn run_once<D: Disk, R: Wait, G>(
     rt: &R,
-    alloc: Global,
-    script: &Script,
-    hub: &Hub<D>,
+    service: &Service<'_, D, G>,
     pass: &mut Pass<Contents<D>>,
     server: u8,
     client: u8,
@@ -320,32 +295,30 @@ fn run_once<D: Disk, R: Wait>(
     program: &Program,
     begun: &Begun,
 ) -> Result<Option<Answered>, Cut>
-    requires pass { IsRunPass hub.now script.now pass.old }
-    requires client { IsServedClient script.now client server }
-    requires program { program_of script.now client number ≡ Some program.now }
-    requires rows { AreLive script.now pass.old.seen begun.now.snap begun.now.roller.rolled.tree }
-    ensures pass { IsRunPass hub.now script.now pass.new }
+    requires pass { IsRunPass service.now.hub.now service.now.script.now pass.old }
+    requires client { IsServedClient service.now.script.now client server }
+    requires program { program_of service.now.script.now client number ≡ Some program.now }
+    requires rows { AreLive service.now.script.now pass.old.seen begun.now.snap begun.now.roller.rolled.tree }
+    ensures pass { IsRunPass service.now.hub.now service.now.script.now pass.new }
     ensures parts { pass.new.parts ≡ pass.old.parts }
     ensures snap { (told : _) → result ≡ Ok (Some told) → told.snap ≡ begun.now.snap }
-    ensures ended { (told : _) → result ≡ Ok (Some told) → EndsServed script.now client number pass.old pass.new told }
+    ensures ended { (told : _) → result ≡ Ok (Some told) → EndsServed service.now.script.now client number pass.old pass.new told }
     ensures not { result ≡ Ok None → GoesOn client pass.old pass.new [] }
 {
     let _ = number;
     let snap = begun.snap;
     let tree = begun.roller.tree().share()?;
-    let Executed { answers, finished } = run_program(alloc, program, tree, snap, server, client)?;
-    match end_program(rt, script, hub, pass, client, finished)? {
+    let Executed { answers, finished } = run_program(service.alloc, program, tree, snap, server, client)?;
+    match end_program(rt, service, pass, client, finished)? {
         Some(end) => Ok(Some(Answered { snap, end, answers })),
         None => Ok(None),
     }
 }
 
 // Runs a begun program on its snapshot, and ends it. A client that is out of turn asks again.
-fn finish_program<D: Disk, R: Wait>(
+fn finish_program<D: Disk, R: Wait, G>(
     rt: &R,
-    alloc: Global,
-    script: &Script,
-    hub: &Hub<D>,
+    service: &Service<'_, D, G>,
     pass: &mut Pass<Contents<D>>,
     server: u8,
     client: u8,
@@ -353,18 +326,18 @@ fn finish_program<D: Disk, R: Wait>(
     program: &Program,
     begun: &Begun,
 ) -> Result<Answered, Cut>
-    requires pass { IsRunPass hub.now script.now pass.old }
-    requires client { IsServedClient script.now client server }
-    requires program { program_of script.now client number ≡ Some program.now }
-    requires rows { AreLive script.now pass.old.seen begun.now.snap begun.now.roller.rolled.tree }
-    ensures pass { IsRunPass hub.now script.now pass.new }
+    requires pass { IsRunPass service.now.hub.now service.now.script.now pass.old }
+    requires client { IsServedClient service.now.script.now client server }
+    requires program { program_of service.now.script.now client number ≡ Some program.now }
+    requires rows { AreLive service.now.script.now pass.old.seen begun.now.snap begun.now.roller.rolled.tree }
+    ensures pass { IsRunPass service.now.hub.now service.now.script.now pass.new }
     ensures parts { pass.new.parts ≡ pass.old.parts }
     ensures snap { IfOk result (λ told. told.snap ≡ begun.now.snap) }
-    ensures ended { IfOk result (EndsServed script.now client number pass.old pass.new) }
+    ensures ended { IfOk result (EndsServed service.now.script.now client number pass.old pass.new) }
 {
     for _ in rt.forever() {
         let told = run_once(
-            rt, alloc, script, hub, pass, server, client, number, program, begun,
+            rt, service, pass, server, client, number, program, begun,
         )?;
         if let Some(told) = told {
             return Ok(told);
@@ -376,59 +349,51 @@ fn finish_program<D: Disk, R: Wait>(
 // Serves the client's program of a number, from 1.
 fn serve_program<D: Disk, R: Threads + Wait + Sync, G: Gate + Sync>(
     rt: &R,
-    alloc: Global,
-    script: &Script,
-    hub: &Hub<D>,
+    service: &Service<'_, D, G>,
     pass: &mut Pass<Contents<D>>,
     server: u8,
     client: u8,
     number: usize,
     program: &Program,
-    threads: usize,
-    gate: &G,
 ) -> Result<Answered, Cut>
-    requires pass { IsRunPass hub.now script.now pass.old }
-    requires client { IsServedClient script.now client server }
-    requires program { program_of script.now client number ≡ Some program.now }
-    requires threads { IsThreadCount threads }
-    ensures pass { IsRunPass hub.now script.now pass.new }
+    requires pass { IsRunPass service.now.hub.now service.now.script.now pass.old }
+    requires client { IsServedClient service.now.script.now client server }
+    requires program { program_of service.now.script.now client number ≡ Some program.now }
+    requires threads { IsThreadCount service.now.threads }
+    ensures pass { IsRunPass service.now.hub.now service.now.script.now pass.new }
     ensures parts { pass.new.parts ≡ pass.old.parts }
-    ensures served { IfOk result (Serves script.now client number pass.old pass.new) }
+    ensures served { IfOk result (Serves service.now.script.now client number pass.old pass.new) }
 {
-    let begun = begin_program(rt, alloc, script, hub, pass, server, client, threads, gate)?;
+    let begun = begin_program(rt, service, pass, server, client)?;
     finish_program(
-        rt, alloc, script, hub, pass, server, client, number, program, &begun,
+        rt, service, pass, server, client, number, program, &begun,
     )
 }
 
 // Serves the client's next program, and notes what it is told of it.
 fn serve_next<D: Disk, R: Threads + Wait + Sync, G: Gate + Sync>(
     rt: &R,
-    alloc: Global,
-    script: &Script,
-    hub: &Hub<D>,
+    service: &Service<'_, D, G>,
     pass: &mut Pass<Contents<D>>,
     server: u8,
     client: u8,
     number: usize,
     program: &Program,
     told: &mut Vec<Answered>,
-    threads: usize,
-    gate: &G,
 ) -> Result<(), Cut>
-    requires pass { IsRunPass hub.now script.now pass.old }
-    requires client { IsServedClient script.now client server }
+    requires pass { IsRunPass service.now.hub.now service.now.script.now pass.old }
+    requires client { IsServedClient service.now.script.now client server }
     requires number { number ≡ length told.old.items + 1 }
-    requires program { program_of script.now client number ≡ Some program.now }
-    requires served { AreServed script.now client 1 pass.old.seen (own_turns client pass.old) told.old.items }
-    requires threads { IsThreadCount threads }
-    ensures pass { IsRunPass hub.now script.now pass.new }
+    requires program { program_of service.now.script.now client number ≡ Some program.now }
+    requires served { AreServed service.now.script.now client 1 pass.old.seen (own_turns client pass.old) told.old.items }
+    requires threads { IsThreadCount service.now.threads }
+    ensures pass { IsRunPass service.now.hub.now service.now.script.now pass.new }
     ensures parts { pass.new.parts ≡ pass.old.parts }
-    ensures served { OnOk result (AreServed script.now client 1 pass.new.seen (own_turns client pass.new) told.new.items) }
+    ensures served { OnOk result (AreServed service.now.script.now client 1 pass.new.seen (own_turns client pass.new) told.new.items) }
     ensures count { OnOk result (length told.new.items ≡ number) }
 {
     let answered = serve_program(
-        rt, alloc, script, hub, pass, server, client, number, program, threads, gate,
+        rt, service, pass, server, client, number, program,
     )?;
     told.push(answered)?;
     Ok(())
@@ -447,32 +412,28 @@ fn client_of(script: &Script, number: u8) -> &Client
 /// Serves a client's programs in their order, and notes what it is told of each.
 pub(crate) fn serve_client<D: Disk, R: Threads + Wait + Sync, G: Gate + Sync>(
     rt: &R,
-    alloc: Global,
-    script: &Script,
-    hub: &Hub<D>,
+    service: &Service<'_, D, G>,
     pass: &mut Pass<Contents<D>>,
     client: u8,
     told: &mut Vec<Answered>,
-    threads: usize,
-    gate: &G,
 ) -> Result<(), Cut>
-    requires pass { IsRunPass hub.now script.now pass.old }
-    requires client { IsWithin 1 (length script.now.clients) client }
+    requires pass { IsRunPass service.now.hub.now service.now.script.now pass.old }
+    requires client { IsWithin 1 (length service.now.script.now.clients) client }
     requires unserved { own_turns client pass.old ≡ [] }
     requires untold { told.old.items ≡ [] }
-    requires threads { IsThreadCount threads }
-    ensures pass { IsRunPass hub.now script.now pass.new }
+    requires threads { IsThreadCount service.now.threads }
+    ensures pass { IsRunPass service.now.hub.now service.now.script.now pass.new }
     ensures parts { pass.new.parts ≡ pass.old.parts }
-    ensures served { OnOk result (AreServed script.now client 1 pass.new.seen (own_turns client pass.new) told.new.items) }
-    ensures whole { OnOk result ((own : Client) → nth script.now.clients client ≡ Some own → length told.new.items ≡ length own.programs) }
+    ensures served { OnOk result (AreServed service.now.script.now client 1 pass.new.seen (own_turns client pass.new) told.new.items) }
+    ensures whole { OnOk result ((own : Client) → nth service.now.script.now.clients client ≡ Some own → length told.new.items ≡ length own.programs) }
 {
-    let own = client_of(script, client);
+    let own = client_of(service.script, client);
     let programs = own.programs.as_slice();
     for at in 0..programs.len() {
         let number = at + 1;
         let program = &programs[at];
         serve_next(
-            rt, alloc, script, hub, pass, own.server, client, number, program, told, threads, gate,
+            rt, service, pass, own.server, client, number, program, told,
         )?;
     }
     Ok(())

@@ -26,8 +26,8 @@ loop-at-init g c =
       | in-Ok w ↦ subst IsPadded (sym w.in-Ok.is) tt
       | in-Err-Even w ↦ subst IsPadded (sym w.in-Err-Even.is) (subst (λ (e : PadRefusal). IsPadded (Err e)) (sym w.in-Err-Even.field-0-is) tt)
     ] in
-    let even : len_of new.seen % c.args.script.now.shape.group ≡ 0 = ap (λ (w : Setting). len_of new.seen % w.shape.group) (sym run.setting_is) ∙ pads_alone old new 1 c.pad.result turn c.requires.all run.told held in
-    (own_run_on c.args.hub.now c.args.script.now c.pad.ensures.kept.0 turn.turn run, c.pad.ensures.kept.1, own_grown turn.turn, even, refl)
+    let even : len_of new.seen % c.args.service.now.script.now.shape.group ≡ 0 = ap (λ (w : Setting). len_of new.seen % w.shape.group) (sym run.setting_is) ∙ pads_alone old new 1 c.pad.result turn c.requires.all run.told held in
+    (own_run_on c.args.service.now.hub.now c.args.service.now.script.now c.pad.ensures.kept.0 turn.turn run, c.pad.ensures.kept.1, own_grown turn.turn, even, refl)
 
 pub loop-at-preserved : goal.loop-at-preserved
 loop-at-preserved g c =
@@ -35,5 +35,5 @@ loop-at-preserved g c =
     let e = c.publish_end.ensures in
     let old = c.loop-at.pass in
     let new = c.publish_end.new.pass in
-    let even : len_of new.seen % c.args.script.now.shape.group ≡ 0 = ap (λ (l : _). length l % c.args.script.now.shape.group) e.log ∙ i.3 in
+    let even : len_of new.seen % c.args.service.now.script.now.shape.group ≡ 0 = ap (λ (l : _). length l % c.args.service.now.script.now.shape.group) e.log ∙ i.3 in
     (e.pass, e.parts ∙ i.1, prefix_trans c.args.pass.now.seen old.seen new.seen i.2 e.grown, even, one_more_ends old.seen new.seen c.loop-at.at e.log c.in_ok-publish_end.ensures.ends i.4)

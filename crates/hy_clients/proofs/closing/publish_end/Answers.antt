@@ -13,7 +13,7 @@ returns-then-is_empty-clause-ends g c =
     let pass = c.args.pass.now in
     let look = c.in_ok-look.look in
     let turn = c.in_ok-look.ensures.turn in
-    let even = even_at c.args.hub.now c.args.script.now pass c.requires.pass c.requires.even in
+    let even = even_at c.args.service.now.hub.now c.args.service.now.script.now pass c.requires.pass c.requires.even in
     let none : length look.entries ≡ 0 = ap length (sym c.as_slice-entries.ensures) ∙ grind (arith, nat_tests) in
     let at = looks_at_end pass c.look.new.pass c.args.server look turn c.requires.all c.requires.pass.told even none in
     let same = looks_alone pass c.look.new.pass c.args.server look turn c.requires.all in
@@ -23,7 +23,7 @@ pub returns-in-Ok-clause-log : goal.returns-in-Ok-clause-log
 returns-in-Ok-clause-log g c =
     let pass = c.args.pass.now in
     let look = c.in_ok-look.look in
-    let even = even_at c.args.hub.now c.args.script.now pass c.requires.pass c.requires.even in
+    let even = even_at c.args.service.now.hub.now c.args.service.now.script.now pass c.requires.pass c.requires.even in
     let rolled : c.in_ok-rolled.rolled ≡ roll_on look.roller look.entries = c.in_ok-rolled.ensures ∙ ap (roll_on look.roller) c.as_slice-entries.ensures in
     (publishes pass c.look.new.pass c.publish.new.pass c.args.server look c.in_ok-rolled.rolled (Ok tt) c.requires.pass.told even c.requires.all c.look.ensures.kept.1 c.in_ok-look.ensures.turn c.in_ok-look.ensures.rolls.whole rolled c.in-Ok.ensures.turn).log
 
@@ -31,7 +31,7 @@ pub returns-in-Ok-clause-ends : goal.returns-in-Ok-clause-ends
 returns-in-Ok-clause-ends g c =
     let pass = c.args.pass.now in
     let look = c.in_ok-look.look in
-    let even = even_at c.args.hub.now c.args.script.now pass c.requires.pass c.requires.even in
+    let even = even_at c.args.service.now.hub.now c.args.service.now.script.now pass c.requires.pass c.requires.even in
     let rolled : c.in_ok-rolled.rolled ≡ roll_on look.roller look.entries = c.in_ok-rolled.ensures ∙ ap (roll_on look.roller) c.as_slice-entries.ensures in
     (publishes pass c.look.new.pass c.publish.new.pass c.args.server look c.in_ok-rolled.rolled (Ok tt) c.requires.pass.told even c.requires.all c.look.ensures.kept.1 c.in_ok-look.ensures.turn c.in_ok-look.ensures.rolls.whole rolled c.in-Ok.ensures.turn).boards tt
 
@@ -39,6 +39,6 @@ pub returns-in-Err-Stale-clause-ends : goal.returns-in-Err-Stale-clause-ends
 returns-in-Err-Stale-clause-ends g c =
     let pass = c.args.pass.now in
     let look = c.in_ok-look.look in
-    let even = even_at c.args.hub.now c.args.script.now pass c.requires.pass c.requires.even in
+    let even = even_at c.args.service.now.hub.now c.args.service.now.script.now pass c.requires.pass c.requires.even in
     let rolled : c.in_ok-rolled.rolled ≡ roll_on look.roller look.entries = c.in_ok-rolled.ensures ∙ ap (roll_on look.roller) c.as_slice-entries.ensures in
     (publishes pass c.look.new.pass c.publish.new.pass c.args.server look c.in_ok-rolled.rolled (Err c.in-Err-Stale.field-0) c.requires.pass.told even c.requires.all c.look.ensures.kept.1 c.in_ok-look.ensures.turn c.in_ok-look.ensures.rolls.whole rolled c.in-Err-Stale.ensures.turn).boards (subst (λ (e : PublishRefusal). IsPublished (Err e)) (sym c.in-Err-Stale.field-0-is) tt)

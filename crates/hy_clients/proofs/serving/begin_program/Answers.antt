@@ -5,7 +5,7 @@ use Rattle.hy_clients.proofs.serving.begin_program.Goals as goal
 
 pub returns-in-Ok-clause-begun : goal.returns-in-Ok-clause-begun
 returns-in-Ok-clause-begun g c =
-    begins_after c.args.script.now c.args.client c.args.pass.now c.loop.pass c.begin_once.new.pass c.in-Ok.begun c.loop.invariant.1 c.in-Ok.ensures.begun
+    begins_after c.args.service.now.script.now c.args.client c.args.pass.now c.loop.pass c.begin_once.new.pass c.in-Ok.begun c.loop.invariant.1 c.in-Ok.ensures.begun
 
 pub loop-preserved : goal.loop-preserved
 loop-preserved g c = (

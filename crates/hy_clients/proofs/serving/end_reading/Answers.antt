@@ -5,4 +5,4 @@ use Rattle.hy_clients.proofs.serving.end_reading.Goals as goal
 
 pub returns-in-Ok-clause-ended : goal.returns-in-Ok-clause-ended
 returns-in-Ok-clause-ended g c = λ x e.
-    (sym (same_answer Reading x e), ends_reading c.args.client c.args.hub.now.parts c.args.pass.now c.end.new.pass c.in-Ok.field-0 c.end.ensures.kept.1 c.in-Ok.ensures.turn)
+    (sym (same_answer Reading x e), ends_reading c.args.client c.args.service.now.hub.now.parts c.args.pass.now c.end.new.pass c.in-Ok.field-0 c.end.ensures.kept.1 c.in-Ok.ensures.turn)

@@ -13,11 +13,11 @@ use Rattle.hy_clients.proofs.serving.run_once.Goals as goal
 pub end_program-requires-clause-own : goal.end_program-requires-clause-own
 end_program-requires-clause-own g c =
     let run : Running = record { at = c.args.begun.now.snap; pairs = pairs_of c.in_ok-tree.tree; effects = (exec c.args.program.now (pairs_of c.in_ok-tree.tree)).1 } in
-    own_end c.args.hub.now c.args.script.now c.args.client c.args.server c.args.pass.now run c.in_ok-answers.field-0.finished c.requires.client c.requires.pass c.in_ok-answers.ensures.finish_of
+    own_end c.args.service.now.hub.now c.args.service.now.script.now c.args.client c.args.server c.args.pass.now run c.in_ok-answers.field-0.finished c.requires.client c.requires.pass c.in_ok-answers.ensures.finish_of
 
 pub returns-in-Some-clause-ended : goal.returns-in-Some-clause-ended
 returns-in-Some-clause-ended g c = λ told e.
-    let script = c.args.script.now in
+    let script = c.args.service.now.script.now in
     let left = c.in_ok-answers.field-0.finished in
     let tree : c.in_ok-tree.tree ≡ c.args.begun.now.roller.rolled.tree = search rules in
     let rows : AreLive script c.args.pass.now.seen c.args.begun.now.snap c.in_ok-tree.tree = live_same script c.args.pass.now.seen c.args.begun.now.snap c.in_ok-tree.tree c.args.begun.now.roller.rolled.tree tree c.requires.rows in
