@@ -137,6 +137,12 @@ fn a_device_fails_under_check(rt: HostRuntime) -> Result<(), Fail> {
     Ok(())
 }
 
+// Whether the device that fails is that of the log, and the line that is written then.
+const FAILING: [(bool, &[u8]); 2] = [
+    (true, b"hyder: device log\n"),
+    (false, b"hyder: device points\n"),
+];
+
 // A device with ample room. Where it is to fail, it does so at its call of this number, or at that and all later ones.
 fn planned(alloc: Global, number: u64, is_last: bool) -> Result<MemDisk, Fail> {
     let mut disk = if is_last {
@@ -234,12 +240,8 @@ fn is_left_whole<R: Threads + Wait + Sync>(
 #[test]
 fn each_device_fails_at_each_call_of_a_run_that_saves(rt: HostRuntime) -> Result<(), Fail> {
     let alloc = rt.alloc();
-    let rows: [(bool, &[u8]); 2] = [
-        (true, b"hyder: device log\n"),
-        (false, b"hyder: device points\n"),
-    ];
     let mut cases = 0u32;
-    for (of_log, line) in rows {
+    for (of_log, line) in FAILING {
         let mut is_fine = false;
         for number in 1..100 {
             let devices = one_planned(alloc, of_log, number, false)?;
@@ -259,12 +261,8 @@ fn each_device_fails_at_each_call_of_a_run_that_saves(rt: HostRuntime) -> Result
 #[test]
 fn a_device_fails_for_good_and_a_crash_follows(rt: HostRuntime) -> Result<(), Fail> {
     let alloc = rt.alloc();
-    let rows: [(bool, &[u8]); 2] = [
-        (true, b"hyder: device log\n"),
-        (false, b"hyder: device points\n"),
-    ];
     let mut cases = 0u32;
-    for (of_log, line) in rows {
+    for (of_log, line) in FAILING {
         for pattern in 0..3 {
             for number in 1..100 {
                 let devices = one_planned(alloc, of_log, number, true)?;
