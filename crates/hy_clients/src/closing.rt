@@ -41,7 +41,9 @@ fn publish_end<D: Disk, R: Threads + Wait + Sync, G: Gate + Sync>(
     if entries.is_empty() {
         return Ok(());
     }
-    let rolled = look.roller.roll(rt, service.alloc, entries, service.threads, service.gate)?;
+    let rolled = look
+        .roller
+        .roll(rt, service.alloc, entries, service.threads, service.gate)?;
     match service.hub.publish(rt, pass, server, rolled) {
         Ok(()) => Ok(()),
         Err(PublishRefusal::Stale { .. }) => Ok(()),

@@ -165,7 +165,9 @@ pub(crate) fn publish_to<D: Disk, R: Threads + Wait + Sync, G: Gate + Sync>(
         return Ok(());
     }
     let entries = look.entries.as_slice();
-    let rolled = look.roller.roll(rt, service.alloc, entries, service.threads, service.gate)?;
+    let rolled = look
+        .roller
+        .roll(rt, service.alloc, entries, service.threads, service.gate)?;
     publish(rt, service, pass, server, rolled)
 }
 
@@ -308,7 +310,8 @@ fn run_once<D: Disk, R: Wait, G>(
     let _ = number;
     let snap = begun.snap;
     let tree = begun.roller.tree().share()?;
-    let Executed { answers, finished } = run_program(service.alloc, program, tree, snap, server, client)?;
+    let alloc = service.alloc;
+    let Executed { answers, finished } = run_program(alloc, program, tree, snap, server, client)?;
     match end_program(rt, service, pass, client, finished)? {
         Some(end) => Ok(Some(Answered { snap, end, answers })),
         None => Ok(None),
@@ -336,9 +339,7 @@ fn finish_program<D: Disk, R: Wait, G>(
     ensures ended { IfOk result (EndsServed service.now.script.now client number pass.old pass.new) }
 {
     for _ in rt.forever() {
-        let told = run_once(
-            rt, service, pass, server, client, number, program, begun,
-        )?;
+        let told = run_once(rt, service, pass, server, client, number, program, begun)?;
         if let Some(told) = told {
             return Ok(told);
         }
@@ -365,9 +366,7 @@ fn serve_program<D: Disk, R: Threads + Wait + Sync, G: Gate + Sync>(
     ensures served { IfOk result (Serves service.now.script.now client number pass.old pass.new) }
 {
     let begun = begin_program(rt, service, pass, server, client)?;
-    finish_program(
-        rt, service, pass, server, client, number, program, &begun,
-    )
+    finish_program(rt, service, pass, server, client, number, program, &begun)
 }
 
 // Serves the client's next program, and notes what it is told of it.
@@ -392,9 +391,7 @@ fn serve_next<D: Disk, R: Threads + Wait + Sync, G: Gate + Sync>(
     ensures served { OnOk result (AreServed service.now.script.now client 1 pass.new.seen (own_turns client pass.new) told.new.items) }
     ensures count { OnOk result (length told.new.items ≡ number) }
 {
-    let answered = serve_program(
-        rt, service, pass, server, client, number, program,
-    )?;
+    let answered = serve_program(rt, service, pass, server, client, number, program)?;
     told.push(answered)?;
     Ok(())
 }
@@ -432,9 +429,7 @@ pub(crate) fn serve_client<D: Disk, R: Threads + Wait + Sync, G: Gate + Sync>(
     for at in 0..programs.len() {
         let number = at + 1;
         let program = &programs[at];
-        serve_next(
-            rt, service, pass, own.server, client, number, program, told,
-        )?;
+        serve_next(rt, service, pass, own.server, client, number, program, told)?;
     }
     Ok(())
 }
