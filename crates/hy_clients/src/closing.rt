@@ -3,11 +3,10 @@ ghost use Rattle.std.specs.Prelude.{◌≡◌, ◌%◌, ◌==◌, length, true, 
 ghost use Rattle.std.specs.List.{list_all};
 ghost use mathlib.Core.List.{IsPrefix};
 ghost use Rattle.hy_base.specs.Lists.{change_nth};
-ghost use Rattle.hy_base.specs.Shape.{IsWithin};
 ghost use Rattle.hy_base.specs.Limits.{IsThreadCount};
 ghost use Rattle.hy_hub.specs.Calls.{len_of};
 ghost use Rattle.hy_hub.specs.Trace.{state_after};
-ghost use Rattle.hy_clients.specs.Passing.{IsRunPass};
+ghost use Rattle.hy_clients.specs.Services.{IsPassOf, IsServerOf};
 
 use crate::service::Service;
 use crate::serving::Cut;
@@ -25,12 +24,12 @@ fn publish_end<D: Disk, R: Threads + Wait + Sync, G: Gate + Sync>(
     pass: &mut Pass<Contents<D>>,
     server: u8,
 ) -> Result<(), Cut>
-    requires pass { IsRunPass service.now.hub.now service.now.script.now pass.old }
+    requires pass { IsPassOf service.now pass.old }
     requires all { pass.old.parts ≡ service.now.hub.now.parts }
-    requires server { IsWithin 1 service.now.script.now.servers server }
+    requires server { IsServerOf service.now server }
     requires even { len_of pass.old.seen % service.now.script.now.shape.group ≡ 0 }
     requires threads { IsThreadCount service.now.threads }
-    ensures pass { IsRunPass service.now.hub.now service.now.script.now pass.new }
+    ensures pass { IsPassOf service.now pass.new }
     ensures parts { pass.new.parts ≡ pass.old.parts }
     ensures grown { IsPrefix pass.old.seen pass.new.seen }
     ensures log { (state_after pass.new.seen).log ≡ (state_after pass.old.seen).log }
@@ -57,10 +56,10 @@ pub(crate) fn bring_to_end<D: Disk, R: Threads + Wait + Sync, G: Gate + Sync>(
     service: &Service<'_, D, G>,
     pass: &mut Pass<Contents<D>>,
 ) -> Result<(), Cut>
-    requires pass { IsRunPass service.now.hub.now service.now.script.now pass.old }
+    requires pass { IsPassOf service.now pass.old }
     requires all { pass.old.parts ≡ service.now.hub.now.parts }
     requires threads { IsThreadCount service.now.threads }
-    ensures pass { IsRunPass service.now.hub.now service.now.script.now pass.new }
+    ensures pass { IsPassOf service.now pass.new }
     ensures parts { pass.new.parts ≡ pass.old.parts }
     ensures grown { IsPrefix pass.old.seen pass.new.seen }
     ensures ends { OnOk result (list_all (λ board. board == length (state_after pass.new.seen).log) (state_after pass.new.seen).boards ≡ true) }

@@ -7,7 +7,8 @@ ghost use Rattle.hy_base.specs.Limits.{IsThreadCount};
 ghost use Rattle.hy_rules.specs.Runs.{program_of};
 ghost use Rattle.hy_rolling.specs.Rolling.{rolled_upto};
 ghost use Rattle.hy_hub.specs.Calls.{IsEntryOf, IsRollable, IsRollerOf, len_of};
-ghost use Rattle.hy_clients.specs.Passing.{IsRunPass, GoesOn, own_turns};
+ghost use Rattle.hy_clients.specs.Services.{IsPassOf, IsServerOf, IsClientOf};
+ghost use Rattle.hy_clients.specs.Passing.{GoesOn, own_turns};
 ghost use Rattle.hy_clients.specs.Programs.{AreServed};
 ghost use Rattle.hy_clients.specs.Serving.{AreLive, Begins, EndsServed, EndsBy, EndsReading, IsServedClient, IsOwnEnd, Serves, Takes};
 
@@ -48,9 +49,9 @@ fn complete_group<D: Disk, R: Wait, G>(
     pass: &mut Pass<Contents<D>>,
     server: u8,
 ) -> Result<(), Cut>
-    requires pass { IsRunPass service.now.hub.now service.now.script.now pass.old }
-    requires server { IsWithin 1 service.now.script.now.servers server }
-    ensures pass { IsRunPass service.now.hub.now service.now.script.now pass.new }
+    requires pass { IsPassOf service.now pass.old }
+    requires server { IsServerOf service.now server }
+    ensures pass { IsPassOf service.now pass.new }
     ensures goes { (client : ℕ) → GoesOn client pass.old pass.new [] }
 {
     match service.hub.pad(rt, pass, server) {
@@ -69,9 +70,9 @@ fn look_on<D: Disk, R: Wait, G>(
     pass: &mut Pass<Contents<D>>,
     server: u8,
 ) -> Result<Backlog, AllocError>
-    requires pass { IsRunPass service.now.hub.now service.now.script.now pass.old }
-    requires server { IsWithin 1 service.now.script.now.servers server }
-    ensures pass { IsRunPass service.now.hub.now service.now.script.now pass.new }
+    requires pass { IsPassOf service.now pass.old }
+    requires server { IsServerOf service.now server }
+    ensures pass { IsPassOf service.now pass.new }
     ensures goes { (client : ℕ) → GoesOn client pass.old pass.new [] }
     ensures rolls { IfOk result (λ look. IsRollable pass.new.seen look) }
 {
@@ -91,9 +92,9 @@ fn look_whole<D: Disk, R: Wait, G>(
     pass: &mut Pass<Contents<D>>,
     server: u8,
 ) -> Result<Backlog, Cut>
-    requires pass { IsRunPass service.now.hub.now service.now.script.now pass.old }
-    requires server { IsWithin 1 service.now.script.now.servers server }
-    ensures pass { IsRunPass service.now.hub.now service.now.script.now pass.new }
+    requires pass { IsPassOf service.now pass.old }
+    requires server { IsServerOf service.now server }
+    ensures pass { IsPassOf service.now pass.new }
     ensures goes { (client : ℕ) → GoesOn client pass.old pass.new [] }
     ensures rolls { IfOk result (λ look. IsRollable pass.new.seen look) }
 {
@@ -110,9 +111,9 @@ fn look_to<D: Disk, R: Wait, G>(
     server: u8,
     at: Pos,
 ) -> Result<Backlog, Cut>
-    requires pass { IsRunPass service.now.hub.now service.now.script.now pass.old }
-    requires server { IsWithin 1 service.now.script.now.servers server }
-    ensures pass { IsRunPass service.now.hub.now service.now.script.now pass.new }
+    requires pass { IsPassOf service.now pass.old }
+    requires server { IsServerOf service.now server }
+    ensures pass { IsPassOf service.now pass.new }
     ensures goes { (client : ℕ) → GoesOn client pass.old pass.new [] }
     ensures rolls { IfOk result (λ look. IsRollable pass.new.seen look) }
 {
@@ -131,11 +132,11 @@ fn publish<D: Disk, R: Wait, G>(
     server: u8,
     roller: Roller,
 ) -> Result<(), Cut>
-    requires pass { IsRunPass service.now.hub.now service.now.script.now pass.old }
-    requires server { IsWithin 1 service.now.script.now.servers server }
+    requires pass { IsPassOf service.now pass.old }
+    requires server { IsServerOf service.now server }
     requires within { rolled_upto roller ≤ len_of pass.old.seen }
     requires stands { IsRollerOf pass.old.seen (rolled_upto roller) roller }
-    ensures pass { IsRunPass service.now.hub.now service.now.script.now pass.new }
+    ensures pass { IsPassOf service.now pass.new }
     ensures goes { (client : ℕ) → GoesOn client pass.old pass.new [] }
 {
     match service.hub.publish(rt, pass, server, roller) {
@@ -154,10 +155,10 @@ pub(crate) fn publish_to<D: Disk, R: Threads + Wait + Sync, G: Gate + Sync>(
     server: u8,
     last: Pos,
 ) -> Result<(), Cut>
-    requires pass { IsRunPass service.now.hub.now service.now.script.now pass.old }
-    requires server { IsWithin 1 service.now.script.now.servers server }
+    requires pass { IsPassOf service.now pass.old }
+    requires server { IsServerOf service.now server }
     requires threads { IsThreadCount service.now.threads }
-    ensures pass { IsRunPass service.now.hub.now service.now.script.now pass.new }
+    ensures pass { IsPassOf service.now pass.new }
     ensures goes { (client : ℕ) → GoesOn client pass.old pass.new [] }
 {
     let look = look_to(rt, service, pass, server, last)?;
@@ -178,9 +179,9 @@ fn begin_once<D: Disk, R: Wait, G>(
     pass: &mut Pass<Contents<D>>,
     client: u8,
 ) -> Result<Begun, BeginRefusal>
-    requires pass { IsRunPass service.now.hub.now service.now.script.now pass.old }
-    requires client { IsWithin 1 (length service.now.script.now.clients) client }
-    ensures pass { IsRunPass service.now.hub.now service.now.script.now pass.new }
+    requires pass { IsPassOf service.now pass.old }
+    requires client { IsClientOf service.now client }
+    ensures pass { IsPassOf service.now pass.new }
     ensures parts { pass.new.parts ≡ pass.old.parts }
     ensures begun { IfOk result (Begins service.now.script.now client pass.old pass.new) }
     ensures not { OnErr result (GoesOn client pass.old pass.new []) }
@@ -196,11 +197,11 @@ fn begin_program<D: Disk, R: Threads + Wait + Sync, G: Gate + Sync>(
     server: u8,
     client: u8,
 ) -> Result<Begun, Cut>
-    requires pass { IsRunPass service.now.hub.now service.now.script.now pass.old }
-    requires server { IsWithin 1 service.now.script.now.servers server }
-    requires client { IsWithin 1 (length service.now.script.now.clients) client }
+    requires pass { IsPassOf service.now pass.old }
+    requires server { IsServerOf service.now server }
+    requires client { IsClientOf service.now client }
     requires threads { IsThreadCount service.now.threads }
-    ensures pass { IsRunPass service.now.hub.now service.now.script.now pass.new }
+    ensures pass { IsPassOf service.now pass.new }
     ensures parts { pass.new.parts ≡ pass.old.parts }
     ensures begun { IfOk result (Begins service.now.script.now client pass.old pass.new) }
 {
@@ -224,9 +225,9 @@ fn end_reading<D: Disk, R: Wait, G>(
     pass: &mut Pass<Contents<D>>,
     client: u8,
 ) -> Result<Option<End>, Cut>
-    requires pass { IsRunPass service.now.hub.now service.now.script.now pass.old }
-    requires client { IsWithin 1 (length service.now.script.now.clients) client }
-    ensures pass { IsRunPass service.now.hub.now service.now.script.now pass.new }
+    requires pass { IsPassOf service.now pass.old }
+    requires client { IsClientOf service.now client }
+    ensures pass { IsPassOf service.now pass.new }
     ensures parts { pass.new.parts ≡ pass.old.parts }
     ensures ended { (end : _) → result ≡ Ok (Some end) → (end ≡ End.Reading) × EndsReading client pass.old pass.new }
     ensures not { result ≡ Ok None → GoesOn client pass.old pass.new [] }
@@ -246,10 +247,10 @@ fn append_entry<D: Disk, R: Wait, G>(
     client: u8,
     entry: Entry,
 ) -> Result<Option<End>, Cut>
-    requires pass { IsRunPass service.now.hub.now service.now.script.now pass.old }
-    requires client { IsWithin 1 (length service.now.script.now.clients) client }
+    requires pass { IsPassOf service.now pass.old }
+    requires client { IsClientOf service.now client }
     requires own { IsEntryOf client pass.old.seen entry }
-    ensures pass { IsRunPass service.now.hub.now service.now.script.now pass.new }
+    ensures pass { IsPassOf service.now pass.new }
     ensures parts { pass.new.parts ≡ pass.old.parts }
     ensures taken { (end : _) → result ≡ Ok (Some end) → Takes client entry pass.old pass.new end }
     ensures not { result ≡ Ok None → GoesOn client pass.old pass.new [] }
@@ -272,10 +273,10 @@ fn end_program<D: Disk, R: Wait, G>(
     client: u8,
     finished: Finished,
 ) -> Result<Option<End>, Cut>
-    requires pass { IsRunPass service.now.hub.now service.now.script.now pass.old }
-    requires client { IsWithin 1 (length service.now.script.now.clients) client }
+    requires pass { IsPassOf service.now pass.old }
+    requires client { IsClientOf service.now client }
     requires own { IsOwnEnd client pass.old.seen finished }
-    ensures pass { IsRunPass service.now.hub.now service.now.script.now pass.new }
+    ensures pass { IsPassOf service.now pass.new }
     ensures parts { pass.new.parts ≡ pass.old.parts }
     ensures ended { (end : _) → result ≡ Ok (Some end) → EndsBy client finished pass.old pass.new end }
     ensures not { result ≡ Ok None → GoesOn client pass.old pass.new [] }
@@ -297,11 +298,11 @@ fn run_once<D: Disk, R: Wait, G>(
     program: &Program,
     begun: &Begun,
 ) -> Result<Option<Answered>, Cut>
-    requires pass { IsRunPass service.now.hub.now service.now.script.now pass.old }
+    requires pass { IsPassOf service.now pass.old }
     requires client { IsServedClient service.now.script.now client server }
     requires program { program_of service.now.script.now client number ≡ Some program.now }
     requires rows { AreLive service.now.script.now pass.old.seen begun.now.snap begun.now.roller.rolled.tree }
-    ensures pass { IsRunPass service.now.hub.now service.now.script.now pass.new }
+    ensures pass { IsPassOf service.now pass.new }
     ensures parts { pass.new.parts ≡ pass.old.parts }
     ensures snap { (told : _) → result ≡ Ok (Some told) → told.snap ≡ begun.now.snap }
     ensures ended { (told : _) → result ≡ Ok (Some told) → EndsServed service.now.script.now client number pass.old pass.new told }
@@ -329,11 +330,11 @@ fn finish_program<D: Disk, R: Wait, G>(
     program: &Program,
     begun: &Begun,
 ) -> Result<Answered, Cut>
-    requires pass { IsRunPass service.now.hub.now service.now.script.now pass.old }
+    requires pass { IsPassOf service.now pass.old }
     requires client { IsServedClient service.now.script.now client server }
     requires program { program_of service.now.script.now client number ≡ Some program.now }
     requires rows { AreLive service.now.script.now pass.old.seen begun.now.snap begun.now.roller.rolled.tree }
-    ensures pass { IsRunPass service.now.hub.now service.now.script.now pass.new }
+    ensures pass { IsPassOf service.now pass.new }
     ensures parts { pass.new.parts ≡ pass.old.parts }
     ensures snap { IfOk result (λ told. told.snap ≡ begun.now.snap) }
     ensures ended { IfOk result (EndsServed service.now.script.now client number pass.old pass.new) }
@@ -357,11 +358,11 @@ fn serve_program<D: Disk, R: Threads + Wait + Sync, G: Gate + Sync>(
     number: usize,
     program: &Program,
 ) -> Result<Answered, Cut>
-    requires pass { IsRunPass service.now.hub.now service.now.script.now pass.old }
+    requires pass { IsPassOf service.now pass.old }
     requires client { IsServedClient service.now.script.now client server }
     requires program { program_of service.now.script.now client number ≡ Some program.now }
     requires threads { IsThreadCount service.now.threads }
-    ensures pass { IsRunPass service.now.hub.now service.now.script.now pass.new }
+    ensures pass { IsPassOf service.now pass.new }
     ensures parts { pass.new.parts ≡ pass.old.parts }
     ensures served { IfOk result (Serves service.now.script.now client number pass.old pass.new) }
 {
@@ -380,13 +381,13 @@ fn serve_next<D: Disk, R: Threads + Wait + Sync, G: Gate + Sync>(
     program: &Program,
     told: &mut Vec<Answered>,
 ) -> Result<(), Cut>
-    requires pass { IsRunPass service.now.hub.now service.now.script.now pass.old }
+    requires pass { IsPassOf service.now pass.old }
     requires client { IsServedClient service.now.script.now client server }
     requires number { number ≡ length told.old.items + 1 }
     requires program { program_of service.now.script.now client number ≡ Some program.now }
     requires served { AreServed service.now.script.now client 1 pass.old.seen (own_turns client pass.old) told.old.items }
     requires threads { IsThreadCount service.now.threads }
-    ensures pass { IsRunPass service.now.hub.now service.now.script.now pass.new }
+    ensures pass { IsPassOf service.now pass.new }
     ensures parts { pass.new.parts ≡ pass.old.parts }
     ensures served { OnOk result (AreServed service.now.script.now client 1 pass.new.seen (own_turns client pass.new) told.new.items) }
     ensures count { OnOk result (length told.new.items ≡ number) }
@@ -414,12 +415,12 @@ pub(crate) fn serve_client<D: Disk, R: Threads + Wait + Sync, G: Gate + Sync>(
     client: u8,
     told: &mut Vec<Answered>,
 ) -> Result<(), Cut>
-    requires pass { IsRunPass service.now.hub.now service.now.script.now pass.old }
-    requires client { IsWithin 1 (length service.now.script.now.clients) client }
+    requires pass { IsPassOf service.now pass.old }
+    requires client { IsClientOf service.now client }
     requires unserved { own_turns client pass.old ≡ [] }
     requires untold { told.old.items ≡ [] }
     requires threads { IsThreadCount service.now.threads }
-    ensures pass { IsRunPass service.now.hub.now service.now.script.now pass.new }
+    ensures pass { IsPassOf service.now pass.new }
     ensures parts { pass.new.parts ≡ pass.old.parts }
     ensures served { OnOk result (AreServed service.now.script.now client 1 pass.new.seen (own_turns client pass.new) told.new.items) }
     ensures whole { OnOk result ((own : Client) → nth service.now.script.now.clients client ≡ Some own → length told.new.items ≡ length own.programs) }
