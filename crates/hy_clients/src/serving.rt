@@ -148,7 +148,7 @@ fn publish<D: Disk, R: Wait, G>(
 
 // A server publishes the log up to its last whole group, and so up to the client's last entry. It rolls nothing where another
 // task has published up to that entry meanwhile; so it doesn't where nothing is left to publish.
-pub(crate) fn publish_to<D: Disk, R: Threads + Wait + Sync, G: Gate + Sync>(
+fn roll_to<D: Disk, R: Threads + Wait + Sync, G: Gate + Sync>(
     rt: &R,
     service: &Service<'_, D, G>,
     pass: &mut Pass<Contents<D>>,
@@ -170,6 +170,28 @@ pub(crate) fn publish_to<D: Disk, R: Threads + Wait + Sync, G: Gate + Sync>(
         .roller
         .roll(rt, service.alloc, entries, service.threads, service.gate)?;
     publish(rt, service, pass, server, rolled)
+}
+
+// The same, by one task of the server at a time. Where another does it, this one waits for its end.
+fn publish_to<D: Disk, R: Threads + Wait + Sync, G: Gate + Sync>(
+    rt: &R,
+    service: &Service<'_, D, G>,
+    pass: &mut Pass<Contents<D>>,
+    server: u8,
+    last: Pos,
+) -> Result<(), Cut>
+    requires pass { IsPassOf service.now pass.old }
+    requires server { IsServerOf service.now server }
+    requires threads { IsThreadCount service.now.threads }
+    ensures pass { IsPassOf service.now pass.new }
+    ensures goes { (client : ℕ) → GoesOn client pass.old pass.new [] }
+{
+    if !service.hub.take_roll(rt, server) {
+        return Ok(());
+    }
+    let done = roll_to(rt, service, pass, server, last);
+    service.hub.end_roll(server);
+    done
 }
 
 // Begins the client's next program, where it may begin.

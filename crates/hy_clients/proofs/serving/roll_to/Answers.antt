@@ -1,6 +1,6 @@
 use Rattle.std.proofs.Common.{[]}
 use Rattle.hy_clients.proofs.Turning.{quiet_then}
-use Rattle.hy_clients.proofs.serving.publish_to.Goals as goal
+use Rattle.hy_clients.proofs.serving.roll_to.Goals as goal
 
 pub returns-clause-goes : goal.returns-clause-goes
 returns-clause-goes g c = λ client.
