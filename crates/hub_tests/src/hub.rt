@@ -337,6 +337,17 @@ fn a_program_is_begun_and_appended(rt: HostRuntime) -> Result<(), Fail> {
 }
 
 #[test]
+fn the_turn_to_roll_is_given_back(rt: HostRuntime) -> Result<(), Fail> {
+    let bench = Bench::new(rt.alloc(), SHAPE)?;
+    for _time in 0..2 {
+        assert!(rt; bench.hub.take_roll(&rt, 1) && bench.hub.take_roll(&rt, 2));
+        bench.hub.end_roll(1);
+        bench.hub.end_roll(2);
+    }
+    Ok(())
+}
+
+#[test]
 fn an_entry_is_published(rt: HostRuntime) -> Result<(), Fail> {
     let mut bench = Bench::new(rt.alloc(), SHAPE)?;
     assert!(rt; bench.put(&rt, 1) == Some(Ok(1)));
