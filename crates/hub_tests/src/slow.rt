@@ -1,5 +1,5 @@
 //! A device whose sync waits for another thread: programs begin meanwhile.
-ghost use Rattle.std.specs.Prelude.{◌≡◌, ◌<◌, ◌+◌, All, length};
+ghost use Rattle.std.specs.Prelude.{◌≡◌, ◌≤◌, ◌<◌, ◌+◌, All, length, ℕ};
 ghost use Rattle.hy_base.specs.Shape.{IsWithin};
 ghost use Rattle.hub_tests.specs.Trial.{IsTrial};
 
