@@ -1,5 +1,4 @@
-use Rattle.std.proofs.Common.{◌≡◌, ◌++◌, ◌∙◌, ℕ, List, ap, sym, subst, arith, length, take, drop}
-use Rattle.std.specs.Prelude.{All}
+use Rattle.std.proofs.Common.{◌≡◌, ◌++◌, ◌∙◌, ℕ, List, ap, arith, length, take, drop}
 use Rattle.std.proofs.lemmas.List.{take_at}
 use Rattle.hub_tests.proofs.hub.run_beside.Goals as goal
 
@@ -12,4 +11,4 @@ join_last-other_done-requires-clause-trial g c =
     let errands = c.in_ok-errands.errands in
     let new = c.run_errands.new.errands in
     let count : length new ≡ length errands.items = c.run_errands.ensures.count ∙ ap length c.deref_mut.ensures.value in
-    subst (All _) (sym (whole_back errands.len new errands.items errands.ok.0 count)) c.run_errands.ensures.trial
+    rw (whole_back errands.len new errands.items errands.ok.0 count) c.run_errands.ensures.trial
