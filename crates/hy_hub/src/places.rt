@@ -1,9 +1,10 @@
 //! Where calls wait for the device, or for an event: a place for each client, and one for pads. No clause speaks of it.
+use crate::flights::Concerned;
 use crossbeam_utils::sync::{EventCount, Key};
 use std::alloc::{AllocError, Global};
 use std::sync::Wait;
 
-/// The place of pads. Those of clients have their numbers.
+/// The place of pads, which wait where no client does. Those of clients have their numbers.
 pub const PADS: u8 = 0;
 
 /// The places of a hub.
@@ -35,11 +36,16 @@ impl Places {
         }
     }
 
-    /// Wakes those who wait at these places, and all pads.
-    pub fn notify_each(&self, places: &[u8]) {
-        self.notify(PADS);
-        for place in places {
-            self.notify(*place);
+    /// Wakes those whom a landing concerns. Where the device is home, that is first of all who may have it next: the first
+    /// that waits, or else the pads.
+    pub fn notify_landed(&self, concerned: &Concerned, is_home: bool) {
+        if is_home {
+            self.notify(concerned.next);
+        }
+        for client in &concerned.landed {
+            if *client != PADS {
+                self.notify(*client);
+            }
         }
     }
 
