@@ -3,10 +3,8 @@ ghost use Rattle.std.specs.Prelude.{◌≤◌};
 
 use crate::calls::{Answer, RUN, ask, call, call_on, empty, fine, is_answered, roomy, told};
 use crate::logs::{DUMP, NO_CLIENT, NONE, ONE_PUT, one_put};
-use crate::points::{Devices, FIRST};
-use crate::simulations::{SHORT_PUT, TWO_SUMS, TWO_SUMS_OUT, simulated_on};
 use hy_base::Pos;
-use hy_disk::Tuned;
+use hy_disk::{Disk, Tuned};
 use hy_io::{MemSink, MemSource};
 use hy_mem::MemDisk;
 use hy_pipe::OpenGate;
@@ -20,6 +18,36 @@ const NO_CLIENT_AFTER_PUT: &[u8] = b"trace 0\nserver 1 at 1 rows 1\nrow 1 a by 1
 
 const THREE_CLIENTS: &[u8] =
     b"shape 2 1 20\nservers 2\nclient 1\nbegin\nput 1 a\nend\nbegin\nadd 7 1\nend\nclient 2\nbegin\nadd 7 1\nend\nbegin\nget 7\nend\nclient 1\nbegin\ndel 1\nend\nbegin\nput 2 b\nend\n";
+
+const SHORT_PUT: &[u8] = b"shape 1 1 8\nservers 1\nclient 1\nbegin\nput 1\nend\nschedule\n";
+
+const TWO_SUMS: &[u8] =
+    b"shape 1 1 8\nservers 1\nclient 1\nbegin\nadd 7 1\nend\nclient 1\nbegin\nadd 7 1\nend\nschedule\nb 1\nb 2\na 1\na 2\n";
+
+const TWO_SUMS_OUT: &[u8] =
+    b"trace 5\nb 1\nb 2\na 1\na 2\nr 1 2\nprogram 1 1\nsum 1\nat 1 commit\nprogram 2 1\nsum 1\nat 2 abort final 7 by 1\nserver 1 at 2 rows 1\nrow 7 1 by 1\n";
+
+const SAVED: &[u8] = b"shape 2 2 8\nservers 1\nclient 1\nbegin\nput 1 a\nend\n";
+
+// The device of a log, and that of its saved point.
+type Devices = (MemDisk, MemDisk);
+
+// A call over two devices without room, which hands them back as they were.
+fn simulated_on<R: Threads + Wait + Sync>(
+    rt: &R,
+    alloc: Global,
+    asked: &[&str],
+    source: &mut MemSource,
+    sink: &mut MemSink,
+) -> Result<Done<MemDisk>, Fail> {
+    let log = MemDisk::new(alloc, b"untouched", &[1])?;
+    let points = MemDisk::new(alloc, b"points", &[1])?;
+    let done = call_on(rt, alloc, asked, source, sink, (log, points), &OpenGate)?;
+    if done.log.faults() != 0 || done.points.faults() != 0 {
+        return Err("a device was used")?;
+    }
+    Ok(done)
+}
 
 // A call that was refused, with no entry in its log, and its line.
 fn refused(number: u8, text: &[u8]) -> Answer<'_> {
@@ -168,7 +196,7 @@ fn saving<R: Threads + Wait + Sync>(
     devices: Devices,
     line: &[u8],
 ) -> Result<Done<MemDisk>, Fail> {
-    let mut source = MemSource::new(alloc, FIRST, 1000, &[])?;
+    let mut source = MemSource::new(alloc, SAVED, 1000, &[])?;
     let mut sink = MemSink::new(alloc, 1000, 1000, &[])?;
     let asked = ["run", "--save"];
     let done = call_on(
