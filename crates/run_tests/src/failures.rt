@@ -189,6 +189,20 @@ fn one_planned(alloc: Global, of_log: bool, number: u64, is_last: bool) -> Resul
     Ok(if of_log { (one, other) } else { (other, one) })
 }
 
+// Whether a call ended well.
+fn ended_well(done: &Done<MemDisk>) -> bool {
+    done.status.number() == 0
+}
+
+// Whether a call ended well, or for a device that failed, with this line.
+fn is_fine_or_failed(done: &Done<MemDisk>, sink: &MemSink, line: &[u8]) -> bool {
+    match done.status.number() {
+        0 => true,
+        5 => sink.taken() == line,
+        _ => false,
+    }
+}
+
 // A run that saves its point, over these devices. It ends well, or with this line.
 fn saving<R: Threads + Wait + Sync>(
     rt: &R,
@@ -208,8 +222,7 @@ fn saving<R: Threads + Wait + Sync>(
         devices,
         &OpenGate,
     )?;
-    let number = done.status.number();
-    if number != 0 && (number != 5 || sink.taken() != line) {
+    if !is_fine_or_failed(&done, &sink, line) {
         return Err("a device failed")?;
     }
     Ok(done)
@@ -227,7 +240,7 @@ fn looked<R: Threads + Wait + Sync>(
     let mut sink = MemSink::new(alloc, 1000, 1000, &[])?;
     let devices = (roomy(alloc, log)?, roomy(alloc, points)?);
     let done = call_on(rt, alloc, asked, &mut source, &mut sink, devices, &OpenGate)?;
-    if done.status != Status::Fine {
+    if !ended_well(&done) {
         return Err("what a crash left is refused")?;
     }
     Ok(sink)
@@ -273,7 +286,7 @@ fn each_device_fails_at_each_call_of_a_run_that_saves(rt: HostRuntime) -> Result
         let mut is_fine = false;
         for number in 1..100 {
             let devices = one_planned(alloc, of_log, number, false)?;
-            if saving(&rt, alloc, devices, line)?.status == Status::Fine {
+            if ended_well(&saving(&rt, alloc, devices, line)?) {
                 is_fine = true;
                 break;
             }
@@ -379,12 +392,20 @@ fn crashed<R: Threads + Wait + Sync>(
     requires pattern { pattern ≤ 2 }
 {
     let (done, sink) = ask(rt, alloc, RUN, THREE_CLIENTS, failing(alloc, k)?)?;
-    if done.status.number() != 5 || sink.taken() != b"hyder: device log\n".as_slice() {
+    if !is_answered(
+        &done,
+        &sink,
+        Answer {
+            number: 5,
+            acked: done.acked,
+            text: b"hyder: device log\n",
+        },
+    ) {
         return Err("the device failed")?;
     }
     let acked = done.acked;
     let (done, _) = ask(rt, alloc, &["check"], b"", done.log.stop(pattern))?;
-    if done.status != Status::Fine {
+    if !ended_well(&done) {
         return Err("a log that can't be checked")?;
     }
     Ok((acked, done.acked))
