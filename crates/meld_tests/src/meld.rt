@@ -133,12 +133,18 @@ fn current(alloc: Global, earlier: &Tree, late: bool) -> Result<Tree, Fail>
 }
 
 // A meld on the base rows, or on these with key 700 written late.
+fn melded(alloc: Global, earlier: &Tree, marks: &Marks, late: bool) -> Result<Seen, Fail>
+    requires rows { Each (λ r. r.writer ≤ 10) earlier.now }
+    requires marks { AreFrom 10 marks.now.pairs }
+{
+    let ready = apply(alloc, earlier, marks)?;
+    let cur = current(alloc, earlier, late)?;
+    Ok(seen(counted::<Brand>(alloc, &cur, &ready, marks, Blank::new(1))?))
+}
+
 fn looked(alloc: Global, points: &[Key], late: bool) -> Result<Seen, Fail> {
     let earlier = thousand(alloc)?;
-    let marks = marks(alloc, points)?;
-    let ready = apply(alloc, &earlier, &marks)?;
-    let cur = current(alloc, &earlier, late)?;
-    Ok(seen(counted::<Brand>(alloc, &cur, &ready, &marks, Blank::new(1))?))
+    melded(alloc, &earlier, &marks(alloc, points)?, late)
 }
 
 #[test]

@@ -100,17 +100,21 @@ fn shape(group: u8, window: u8, cap: Pos) -> Result<Shape, Fail>
     }
 }
 
-fn rolled<R: Threads + Sync>(
+// The entries rolled from the first one on.
+fn rolled<R: Threads + Sync, G: Gate + Sync>(
     rt: &R,
     alloc: Global,
     shape: Shape,
-    items: &[Item],
+    entries: &[Shared<Entry>],
+    threads: usize,
+    gate: &G,
 ) -> Result<Roller, Fail>
-    requires { IsGoodShape shape }
+    requires good { IsGoodShape shape }
+    requires threads { IsThreadCount threads }
+    ensures { IfOk result (λ r. r.shape ≡ shape) }
 {
-    let entries = log(alloc, items)?;
     let roller = Roller::new(alloc, shape)?;
-    further(rt, alloc, shape, &roller, &entries, 2, &OpenGate)
+    further(rt, alloc, shape, &roller, entries, threads, gate)
 }
 
 // Whether these are the verdicts from position 1 on.
@@ -159,7 +163,8 @@ fn decides<R: Threads + Sync>(
     verdicts: &[Option<Verdict>],
     rows: &[(Key, Pos, bool)],
 ) -> Result<bool, Fail> {
-    let roller = rolled(rt, alloc, shape(group, window, 8)?, items)?;
+    let shape = shape(group, window, 8)?;
+    let roller = rolled(rt, alloc, shape, &log(alloc, items)?, 2, &OpenGate)?;
     Ok(tells(&roller, verdicts) && has(roller.tree(), rows) && bounds(&roller, 0))
 }
 
@@ -250,8 +255,7 @@ fn in_parts<R: Threads + Sync, G: Gate + Sync>(
         return Err(Fail::new("the log is shorter"));
     }
     let (front, back) = entries.split_at(place);
-    let roller = Roller::new(alloc, shape)?;
-    let part = further(rt, alloc, shape, &roller, front, threads, gate)?;
+    let part = rolled(rt, alloc, shape, front, threads, gate)?;
     further(rt, alloc, shape, &part, back, threads, gate)
 }
 
@@ -265,7 +269,24 @@ impl Gate for Passing {
     fn client(&self, _client: u32) {}
 }
 
-// One more of the roller of both parts is the same as the whole, by any number of threads.
+// Whether one more of the roller of both parts, by so many threads, is the same as the whole.
+fn is_as_whole<R: Threads + Sync>(
+    rt: &R,
+    alloc: Global,
+    shape: Shape,
+    entries: &[Shared<Entry>],
+    whole: &Roller,
+    place: usize,
+    threads: usize,
+) -> Result<bool, Fail>
+    requires good { IsGoodShape shape }
+    requires threads { IsThreadCount threads }
+{
+    let both = in_parts(rt, alloc, shape, entries, place, threads, &Passing)?;
+    Ok(are_same(whole, &both.share()?, 0))
+}
+
+// Whether a cut of the log rolls as the whole, by any number of threads.
 fn is_cut_well<R: Threads + Sync>(
     rt: &R,
     alloc: Global,
@@ -277,9 +298,7 @@ fn is_cut_well<R: Threads + Sync>(
     requires { IsGoodShape shape }
 {
     for threads in [1, 2, 16] {
-        let both = in_parts(rt, alloc, shape, entries, place, threads, &Passing)?;
-        let again = both.share()?;
-        if !are_same(whole, &again, 0) {
+        if !is_as_whole(rt, alloc, shape, entries, whole, place, threads)? {
             return Ok(false);
         }
     }
@@ -304,13 +323,28 @@ fn are_cut_well<R: Threads + Sync>(
     Ok(true)
 }
 
+fn is_mixed_cut_well<R: Threads + Sync>(rt: &R, alloc: Global) -> Result<bool, Fail> {
+    let shape = shape(2, 2, 24)?;
+    let entries = mixed(alloc)?;
+    let whole = rolled(rt, alloc, shape, &entries, 1, &OpenGate)?;
+    are_cut_well(rt, alloc, shape, &entries, &whole)
+}
+
 #[test]
 fn each_cut_rolls_the_same(rt: HostRuntime) -> Result<(), Fail> {
-    let shape = shape(2, 2, 24)?;
-    let entries = mixed(rt.alloc())?;
-    let whole = in_parts(&rt, rt.alloc(), shape, &entries, 24, 1, &OpenGate)?;
-    assert!(rt; are_cut_well(&rt, rt.alloc(), shape, &entries, &whole)?);
+    assert!(rt; is_mixed_cut_well(&rt, rt.alloc())?);
     Ok(())
+}
+
+// The position up to which the mixed log is rolled under a gate, in two parts.
+fn mixed_upto<R: Threads + Sync, G: Gate + Sync>(
+    rt: &R,
+    alloc: Global,
+    gate: &G,
+) -> Result<Pos, Fail> {
+    let shape = shape(2, 2, 24)?;
+    let roller = in_parts(rt, alloc, shape, &mixed(alloc)?, 6, 16, gate)?;
+    Ok(roller.at())
 }
 
 #[test]
@@ -319,9 +353,7 @@ fn each_group_enters_once(rt: HostRuntime) -> Result<(), Fail> {
         entered: AtomicU32::new(0),
         numbers: AtomicU32::new(0),
     };
-    let entries = mixed(rt.alloc())?;
-    let roller = in_parts(&rt, rt.alloc(), shape(2, 2, 24)?, &entries, 6, 16, &gate)?;
-    assert_eq!(rt; roller.at(), 24);
+    assert_eq!(rt; mixed_upto(&rt, rt.alloc(), &gate)?, 24);
     assert_eq!(rt; gate.entered.load(Ordering::SeqCst), 12);
     assert_eq!(rt; gate.numbers.load(Ordering::SeqCst), 78);
     Ok(())
@@ -351,18 +383,24 @@ impl Gate for Meeting {
     fn client(&self, _client: u32) {}
 }
 
+// Whether the second of two sums in one window clashes, rolled by two threads under a gate.
+fn second_clashes<R: Threads + Sync, G: Gate + Sync>(
+    rt: &R,
+    alloc: Global,
+    gate: &G,
+) -> Result<bool, Fail> {
+    let shape = shape(1, 2, 8)?;
+    let roller = rolled(rt, alloc, shape, &log(alloc, &[SUM, SUM])?, 2, gate)?;
+    Ok(tells(&roller, &[COMMIT, last(7, 1)]))
+}
+
 #[test]
 fn groups_of_a_window_are_staged_beside_each_other(rt: HostRuntime) -> Result<(), Fail> {
     let gate = Meeting {
         second: AtomicU32::new(0),
         gave_up: AtomicU32::new(0),
     };
-    let alloc = rt.alloc();
-    let entries = log(alloc, &[SUM, SUM])?;
-    let shape = shape(1, 2, 8)?;
-    let roller = Roller::new(alloc, shape)?;
-    let roller = further(&rt, alloc, shape, &roller, &entries, 2, &gate)?;
-    assert!(rt; tells(&roller, &[COMMIT, last(7, 1)]));
+    assert!(rt; second_clashes(&rt, rt.alloc(), &gate)?);
     assert_eq!(rt; gate.gave_up.load(Ordering::SeqCst), 0);
     Ok(())
 }
@@ -412,8 +450,43 @@ fn resumed(
     Ok(Roller::resume(alloc, shape, at, rows, past, &flags)?)
 }
 
-// Whether a roller that is resumed at a place of a log goes on as the whole.
+// A roller that is resumed behind these entries.
+fn resumed_behind<R: Threads + Sync>(
+    rt: &R,
+    alloc: Global,
+    shape: Shape,
+    entries: &[Shared<Entry>],
+) -> Result<Roller, Fail>
+    requires { IsGoodShape shape }
+    ensures { IfOk result (λ r. r.shape ≡ shape) }
+{
+    let part = rolled(rt, alloc, shape, entries, 2, &OpenGate)?;
+    resumed(alloc, shape, entries, &part)
+}
+
+// Whether a roller that was resumed tells nothing up to there, nor does this one, which is the same as the whole past that.
+fn is_end_of(end: &Roller, whole: &Roller, again: &Roller) -> bool {
+    let from = again.at();
+    bounds(again, from) && are_same(whole, end, from) && end.verdict(from) == Told::Past { from }
+}
+
+// Whether a roller that was resumed goes on by the rest of a log as the whole.
 fn goes_on<R: Threads + Sync>(
+    rt: &R,
+    alloc: Global,
+    shape: Shape,
+    rest: &[Shared<Entry>],
+    whole: &Roller,
+    again: &Roller,
+) -> Result<bool, Fail>
+    requires good { IsGoodShape shape }
+    requires same { again.now.shape ≡ shape }
+{
+    let end = further(rt, alloc, shape, again, rest, 2, &OpenGate)?;
+    Ok(is_end_of(&end, whole, again))
+}
+
+fn goes_on_from<R: Threads + Sync>(
     rt: &R,
     alloc: Global,
     shape: Shape,
@@ -423,33 +496,41 @@ fn goes_on<R: Threads + Sync>(
 ) -> Result<bool, Fail>
     requires { IsGoodShape shape }
 {
-    let part = in_parts(
-        rt,
-        alloc,
-        shape,
-        &entries[..place.min(entries.len())],
-        0,
-        2,
-        &OpenGate,
-    )?;
-    let again = resumed(alloc, shape, entries, &part)?;
-    let at = again.at();
-    let starts = bounds(&again, at);
-    let rest = &entries[place.min(entries.len())..];
-    let end = further(rt, alloc, shape, &again, rest, 2, &OpenGate)?;
-    Ok(starts && are_same(whole, &end, at) && end.verdict(at) == Told::Past { from: at })
+    if entries.len() < place {
+        return Err(Fail::new("the log is shorter"));
+    }
+    let (front, rest) = entries.split_at(place);
+    let again = resumed_behind(rt, alloc, shape, front)?;
+    goes_on(rt, alloc, shape, rest, whole, &again)
+}
+
+// The first place at which a resumed roller doesn't go on as the whole.
+fn first_astray<R: Threads + Sync>(
+    rt: &R,
+    alloc: Global,
+    shape: Shape,
+    entries: &[Shared<Entry>],
+    whole: &Roller,
+) -> Result<Option<usize>, Fail>
+    requires { IsGoodShape shape }
+{
+    for place in [0, 2, 4, 6, 12, 14, 22, 24] {
+        if !goes_on_from(rt, alloc, shape, entries, whole, place)? {
+            return Ok(Some(place));
+        }
+    }
+    Ok(None)
+}
+
+fn first_place_astray<R: Threads + Sync>(rt: &R, alloc: Global) -> Result<Option<usize>, Fail> {
+    let shape = shape(2, 2, 24)?;
+    let entries = mixed(alloc)?;
+    let whole = rolled(rt, alloc, shape, &entries, 2, &OpenGate)?;
+    first_astray(rt, alloc, shape, &entries, &whole)
 }
 
 #[test]
 fn a_resumed_roller_goes_on_as_the_whole(rt: HostRuntime) -> Result<(), Fail> {
-    let shape = shape(2, 2, 24)?;
-    let entries = mixed(rt.alloc())?;
-    let whole = in_parts(&rt, rt.alloc(), shape, &entries, 24, 2, &OpenGate)?;
-    for place in [0, 2, 4, 6, 12, 14, 22, 24] {
-        assert!(rt;
-            goes_on(&rt, rt.alloc(), shape, &entries, &whole, place)?,
-            "from {place}"
-        );
-    }
+    assert_eq!(rt; first_place_astray(&rt, rt.alloc())?, None);
     Ok(())
 }
