@@ -1,34 +1,31 @@
 //! A log on a real file is appended to, closed, opened again, damaged, and refused.
-ghost use Rattle.std.specs.Prelude.{◌≡◌, ◌≤◌, length, IfOk};
-ghost use Rattle.hy_formats.specs.LogFormat.{longest_body};
-
-use crate::memory::{PUT, SHAPE};
+use crate::calls::{PUT, SHAPE, append, bad, close, look, open, reads};
 use hy_disk::Disk;
 use hy_file::FileDisk;
-use hy_formats::{BadPage, Damage, LONGEST_BODY};
-use hy_log::{OpenError, PageLog, open_log};
-use std::alloc::{AllocError, Global};
+use hy_formats::Damage;
+use std::alloc::Global;
 use std::fs;
 use std::test::Fail;
 
 const PATH: &str = "log_on_file_test.log";
 
-// Zeros, in number the most bytes of a body, 18,634. `AllocError` where memory is wanting.
-fn body_buffer(alloc: Global) -> Result<Vec<u8>, AllocError>
-    ensures { IfOk result (λ bytes. length bytes.items ≡ longest_body) }
-{
-    vec![in alloc; 0; LONGEST_BODY]
+// Whether a new log on a device takes the put.
+fn takes_put<D: Disk + Drop>(alloc: Global, disk: D) -> bool {
+    match open(alloc, disk, Some(SHAPE)) {
+        Ok(mut log) => append(&mut log, &PUT) == Some(Ok(1)),
+        Err(_) => false,
+    }
 }
 
-// Whether the first body is the put.
-fn begins_with_put<D: Disk>(alloc: Global, log: &mut PageLog<D>) -> Result<bool, AllocError>
-    requires { 1 ≤ length log.old.bodies }
-{
-    let mut buffer = body_buffer(alloc)?;
-    Ok(match log.read(1, &mut buffer) {
-        Ok(len) => &buffer[..len] == PUT.as_slice(),
-        Err(_) => false,
-    })
+// The device of a log of the put alone.
+fn read_back<D: Disk + Drop>(alloc: Global, disk: D) -> Option<D> {
+    let Ok(mut log) = open(alloc, disk, None) else {
+        return None;
+    };
+    if log.len() != 1 || !reads(alloc, &mut log, 1, &PUT) {
+        return None;
+    }
+    Some(close(log))
 }
 
 #[test]
@@ -37,33 +34,14 @@ fn a_log_is_opened_again(rt: HostRuntime) -> Result<(), Fail> {
     if fs::exists(&rt, PATH)? {
         fs::remove_file(&rt, PATH)?;
     }
-    let Ok(mut log) = open_log(alloc, FileDisk::new(&rt, PATH), Some(SHAPE)) else {
-        return Err("no new log")?;
+    assert!(rt; takes_put(alloc, FileDisk::new(&rt, PATH)));
+    let Some(mut disk) = read_back(alloc, FileDisk::new(&rt, PATH)) else {
+        return Err("no log of the put")?;
     };
-    log.reserve(1)?;
-    assert!(rt; log.append(&PUT) == Ok(1));
-    let _ = log.close();
-
-    let Ok(mut log) = open_log(alloc, FileDisk::new(&rt, PATH), None) else {
-        return Err("no log")?;
-    };
-    if log.len() != 1 {
-        return Err("not one body")?;
-    }
-    assert!(rt; begins_with_put(alloc, &mut log)?);
-
-    let mut disk = log.close();
-    assert_eq!(rt; disk.write_at(300, &[1]), Ok(()));
-    assert_eq!(rt; disk.sync(), Ok(()));
-    let _ = disk;
-    let Err(refused) = open_log(alloc, FileDisk::new(&rt, PATH), None) else {
-        return Err("a damaged log")?;
-    };
-    let bad = BadPage {
-        page: 1,
-        why: Damage::Fill,
-    };
-    assert_eq!(rt; refused.error, OpenError::BadPage(bad));
+    assert!(rt; disk.write_at(300, &[1]) == Ok(()));
+    assert!(rt; disk.sync() == Ok(()));
+    drop(disk);
+    assert!(rt; look(alloc, FileDisk::new(&rt, PATH), None) == Err(bad(1, Damage::Fill)));
     fs::remove_file(&rt, PATH)?;
     Ok(())
 }

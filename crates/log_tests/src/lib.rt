@@ -6,11 +6,11 @@
 #[cfg(test)]
 mod batches;
 #[cfg(test)]
+mod calls;
+#[cfg(test)]
 mod damage;
 #[cfg(test)]
 mod devices;
-#[cfg(test)]
-mod failed_gate;
 #[cfg(test)]
 mod file;
 #[cfg(test)]
