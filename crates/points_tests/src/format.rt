@@ -1,7 +1,7 @@
 //! The format of a saved point, by worked bytes and a table of damage.
 ghost use Rattle.hy_base.specs.Shape.{IsGoodShape};
 
-use hy_base::{Items, Shape};
+use hy_base::{Items, Pos, Shape};
 use hy_formats::Damage;
 use hy_points::{Point, PointError, decode_point, encode_point};
 use hy_tree::Tree;
@@ -43,14 +43,13 @@ const ROWS: [u8; 58] = [
 // The bytes in front of a page of zeros.
 pub fn page(bytes: &[u8]) -> [u8; 256] {
     let mut page = [0; 256];
-    for place in 0..bytes.len().min(256) {
-        page[place] = bytes[place];
-    }
+    let size = bytes.len().min(256);
+    page[..size].copy_from_slice(&bytes[..size]);
     page
 }
 
 // The page with one byte changed.
-fn changed(bytes: &[u8], place: usize, byte: u8) -> [u8; 256] {
+pub fn changed(bytes: &[u8], place: usize, byte: u8) -> [u8; 256] {
     let mut page = page(bytes);
     if let Some(cell) = page.get_mut(place) {
         *cell = byte;
@@ -58,14 +57,21 @@ fn changed(bytes: &[u8], place: usize, byte: u8) -> [u8; 256] {
     page
 }
 
+// The point with which the bytes begin, or none where they are no page behind an open gate.
+pub fn decoded(alloc: Global, bytes: &[u8], shape: Shape) -> Result<Option<Point>, PointError>
+    requires { IsGoodShape shape }
+{
+    if bytes.len() < 256 || bytes[0] != 0x47 {
+        return Ok(None);
+    }
+    Ok(Some(decode_point(alloc, bytes, shape)?))
+}
+
 // Where the bytes are refused, and why.
 fn refusal(alloc: Global, bytes: &[u8], shape: Shape) -> Option<(usize, Damage)>
     requires { IsGoodShape shape }
 {
-    if bytes.len() < 256 || bytes[0] != 0x47 {
-        return None;
-    }
-    match decode_point(alloc, bytes, shape) {
+    match decoded(alloc, bytes, shape) {
         Err(PointError::BadPoint(bad)) => Some((bad.place, bad.why)),
         _ => None,
     }
@@ -83,16 +89,31 @@ fn a_point_is_written(rt: HostRuntime) -> Result<(), Fail> {
     Ok(())
 }
 
+// The position and base of the point that these bytes are, and how many rows and flags it has.
+fn outline(alloc: Global, bytes: &[u8]) -> Result<(Pos, Pos, u64, usize), Fail> {
+    match decoded(alloc, bytes, ONE_BY_ONE)? {
+        None => Err("no point")?,
+        Some(point) => {
+            let rows = point.rows().row_count();
+            Ok((point.position(), point.base(), rows, point.flags().len()))
+        }
+    }
+}
+
+// The point that these bytes are, written again.
+fn again(alloc: Global, bytes: &[u8]) -> Result<Vec<u8>, Fail> {
+    match decoded(alloc, bytes, ONE_BY_ONE)? {
+        None => Err("no point")?,
+        Some(point) => Ok(encode_point(alloc, &point)?),
+    }
+}
+
 #[test]
 fn what_is_read_is_written(rt: HostRuntime) -> Result<(), Fail> {
     let alloc = rt.alloc();
     let bytes = page(&ROWS);
-    assert!(rt; bytes[0] == 0x47);
-    let point = decode_point(alloc, &bytes, ONE_BY_ONE)?;
-    assert!(rt; point.position() == 3 && point.base() == 2);
-    assert!(rt; point.rows().row_count() == 2 && point.flags().len() == 1);
-    let again = encode_point(alloc, &point)?;
-    assert_eq!(rt; again.as_slice(), bytes.as_slice());
+    assert_eq!(rt; outline(alloc, &bytes)?, (3, 2, 2, 1));
+    assert_eq!(rt; again(alloc, &bytes)?.as_slice(), bytes.as_slice());
     Ok(())
 }
 

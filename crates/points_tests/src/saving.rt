@@ -1,17 +1,13 @@
 //! Saves over a device in memory, stopped in each device call.
-ghost use Rattle.std.specs.Prelude.{◌≡◌, ◌≤◌, ◌%◌, length, IfOk};
+ghost use Rattle.std.specs.Prelude.{◌≡◌, IfOk};
 ghost use Rattle.hy_base.specs.Shape.{IsGoodShape};
 
-use crate::format::{FIRST_GROUP, ONE_BY_ONE, TWO_BY_TWO, page};
-use hy_base::{
-    Entry, Intention, Items, Key, Points, Pos, Shape, Shared, Spans, Value, Write, Writes,
-};
+use crate::format::{FIRST_GROUP, ONE_BY_ONE, TWO_BY_TWO, changed, decoded, page};
+use hy_base::{Entry, Intention, Key, Points, Pos, Shape, Shared, Spans, Value, Write, Writes};
 use hy_disk::Tuned;
 use hy_mem::MemDisk;
 use hy_pipe::{OpenGate, Roller};
-use hy_points::{Flags, Point, decode_point};
 use hy_restart::{SaveError, save, save_point};
-use hy_tree::Tree;
 use std::alloc::{AllocError, Global};
 use std::test::Fail;
 use std::thread::Threads;
@@ -26,46 +22,37 @@ const THREE_ENTRIES: [u8; 57] = [
     1, // the flag
 ];
 
-const TWO: [bool; 2] = [true, false];
-
-const FOUR: [bool; 4] = [true, false, false, true];
-
-const SIX: [bool; 6] = [true, false, true, true, false, false];
-
-// A point at the end of the log's first groups, whose base is 0; the flags tell which of their entries committed.
-fn point(alloc: Global, committed: &[bool]) -> Result<Point, AllocError>
-    requires whole { length committed.now % 2 ≡ 0 }
-    requires few { length committed.now ≤ 6 }
-    ensures { IfOk result (λ point. point.flags ≡ committed.now) }
-{
-    let mut flags: Flags = Items::new(alloc);
-    for flag in committed {
-        flags.push(*flag)?;
-    }
-    let position = committed.len() as u32;
-    Ok(Point::new(TWO_BY_TWO, position, Tree::empty(), flags))
+// The page of a point at a position up to 8, of whose entries the first alone committed.
+fn point_at(position: u8) -> [u8; 256] {
+    let longer = changed(&FIRST_GROUP, 1, position.saturating_add(18));
+    changed(&longer, 11, position)
 }
 
 // A device with these bytes, and with room for a few saves.
 fn device(alloc: Global, bytes: &[u8]) -> Result<MemDisk, Fail> {
-    let Ok(mut disk) = MemDisk::new(alloc, bytes, &[]) else {
-        return Err(Fail::new("no memory"));
-    };
+    let mut disk = MemDisk::new(alloc, bytes, &[])?;
     disk.room(4096, 40)?;
     Ok(disk)
 }
 
 // The position of the point that a device holds, or none.
 fn held(alloc: Global, disk: &MemDisk) -> Result<Option<Pos>, Fail> {
-    let bytes = disk.bytes();
-    if bytes.len() < 256 || bytes[0] != 0x47 {
-        return Ok(None);
+    match decoded(alloc, disk.bytes(), TWO_BY_TWO)? {
+        Some(point) => Ok(Some(point.position())),
+        None => Ok(None),
     }
-    Ok(Some(decode_point(alloc, bytes, TWO_BY_TWO)?.position()))
 }
 
-fn front(bytes: &[u8], size: usize) -> &[u8] {
-    &bytes[..size.min(bytes.len())]
+// Saves the point at a position, and says whether the device did all of it.
+fn save_at(alloc: Global, position: u8, disk: &mut MemDisk) -> Result<bool, Fail> {
+    let Some(point) = decoded(alloc, &point_at(position), TWO_BY_TWO)? else {
+        return Err("no point")?;
+    };
+    match save_point(alloc, &point, disk) {
+        Ok(()) => Ok(true),
+        Err(SaveError::Device) => Ok(false),
+        Err(SaveError::Memory) => Err("out of memory")?,
+    }
 }
 
 // The point of a log's first group, which has no rows and a commit and a filler, takes one page; the next one stands over it.
@@ -73,26 +60,52 @@ fn front(bytes: &[u8], size: usize) -> &[u8] {
 fn a_save_writes_one_record(rt: HostRuntime) -> Result<(), Fail> {
     let alloc = rt.alloc();
     let mut disk = device(alloc, &[])?;
-    save_point(alloc, &point(alloc, &TWO)?, &mut disk)?;
+    assert!(rt; save_at(alloc, 2, &mut disk)?);
     assert_eq!(rt; disk.bytes(), page(&FIRST_GROUP).as_slice());
-    save_point(alloc, &point(alloc, &FOUR)?, &mut disk)?;
-    assert_eq!(rt; held(alloc, &disk)?, Some(4));
+    assert!(rt; save_at(alloc, 4, &mut disk)?);
+    assert_eq!(rt; disk.bytes(), point_at(4).as_slice());
     Ok(())
+}
+
+// A device that holds the point at 2, and whose write or sync of this number fails.
+fn armed(alloc: Global, call: u64) -> Result<MemDisk, Fail> {
+    if call < 1 {
+        return Err("no such call")?;
+    }
+    let mut disk = device(alloc, &point_at(2))?;
+    disk.arm(call);
+    Ok(disk)
+}
+
+// What a crash by this pattern leaves of a device.
+fn crashed(disk: MemDisk, pattern: u8) -> Option<MemDisk> {
+    if pattern > 2 {
+        return None;
+    }
+    Some(disk.stop(pattern))
 }
 
 // A device that holds the point at 2, and that a save of the point at 4 was stopped on, in its write or sync of this
 // number. It is left by a pattern.
-fn stopped(alloc: Global, call: u64, pattern: u8) -> Result<MemDisk, Fail>
-    requires call { 1 ≤ call }
-    requires pattern { pattern ≤ 2 }
-{
-    let mut disk = device(alloc, &[])?;
-    save_point(alloc, &point(alloc, &TWO)?, &mut disk)?;
-    disk.arm(call);
-    match save_point(alloc, &point(alloc, &FOUR)?, &mut disk) {
-        Err(SaveError::Device) => Ok(disk.stop(pattern)),
-        _ => Err(Fail::new("the save is not stopped")),
+fn stopped(alloc: Global, call: u64, pattern: u8) -> Result<MemDisk, Fail> {
+    let mut disk = armed(alloc, call)?;
+    if save_at(alloc, 4, &mut disk)? {
+        return Err("the save is not stopped")?;
     }
+    match crashed(disk, pattern) {
+        Some(disk) => Ok(disk),
+        None => Err("no such pattern")?,
+    }
+}
+
+// The position of the point that is held after such a stop, or none. The point at 6 can then be saved.
+fn left(alloc: Global, call: u64, pattern: u8) -> Result<Option<Pos>, Fail> {
+    let mut disk = stopped(alloc, call, pattern)?;
+    let left = held(alloc, &disk)?;
+    if !save_at(alloc, 6, &mut disk)? || held(alloc, &disk)? != Some(6) {
+        return Err("no further save")?;
+    }
+    Ok(left)
 }
 
 // The point that is held after a stop in each call, by each pattern: the old one at 2, the new one at 4, or none.
@@ -100,48 +113,19 @@ fn stopped(alloc: Global, call: u64, pattern: u8) -> Result<MemDisk, Fail>
 fn a_stop_leaves_the_old_point_the_new_one_or_none(rt: HostRuntime) -> Result<(), Fail> {
     let alloc = rt.alloc();
     let cases = [
-        (1, 0, Some(2)),
-        (1, 1, Some(2)),
-        (1, 2, Some(2)),
-        (2, 0, Some(2)),
-        (2, 1, None),
-        (2, 2, None),
-        (3, 0, Some(2)),
-        (3, 1, None),
-        (3, 2, None),
-        (4, 0, None),
-        (4, 1, None),
-        (4, 2, None),
-        (5, 0, None),
-        (5, 1, None),
-        (5, 2, None),
-        (6, 0, None),
-        (6, 1, Some(4)),
-        (6, 2, None),
-        (7, 0, None),
-        (7, 1, Some(4)),
-        (7, 2, None),
+        (1, Some(2), Some(2), Some(2)),
+        (2, Some(2), None, None),
+        (3, Some(2), None, None),
+        (4, None, None, None),
+        (5, None, None, None),
+        (6, None, Some(4), None),
+        (7, None, Some(4), None),
     ];
-    for (call, pattern, left) in cases {
-        assert!(rt; 1 <= call && pattern <= 2);
-        let mut disk = stopped(alloc, call, pattern)?;
-        assert_eq!(rt; held(alloc, &disk)?, left, "call {call}, pattern {pattern}");
-        disk.room(4096, 40)?;
-        save_point(alloc, &point(alloc, &SIX)?, &mut disk)?;
-        assert_eq!(rt; held(alloc, &disk)?, Some(6));
+    for (call, synced, read, torn) in cases {
+        assert_eq!(rt; left(alloc, call, 0)?, synced, "call {call}");
+        assert_eq!(rt; left(alloc, call, 1)?, read, "call {call}");
+        assert_eq!(rt; left(alloc, call, 2)?, torn, "call {call}");
     }
-    Ok(())
-}
-
-// A device that is too short for a page holds no point, nor does one whose gate is closed.
-#[test]
-fn a_short_device_and_a_closed_gate_hold_none(rt: HostRuntime) -> Result<(), Fail> {
-    let alloc = rt.alloc();
-    let mut bytes = page(&FIRST_GROUP);
-    assert_eq!(rt; held(alloc, &device(alloc, &bytes)?)?, Some(2));
-    assert_eq!(rt; held(alloc, &device(alloc, front(&bytes, 255))?)?, None);
-    bytes[0] = 0;
-    assert_eq!(rt; held(alloc, &device(alloc, &bytes)?)?, None);
     Ok(())
 }
 
@@ -164,15 +148,45 @@ fn entry(
 }
 
 // The value of one byte.
-fn text(alloc: Global) -> Result<Option<Value>, Fail> {
-    match Value::new(vec![in alloc; b'a'; 1]?) {
-        Ok(value) => Ok(Some(value)),
-        Err(_) => Err(Fail::new("the value is refused")),
+fn text(alloc: Global) -> Result<Option<Value>, AllocError> {
+    Ok(Value::new(vec![in alloc; b'a']?).ok())
+}
+
+// A roller further by these entries, if they are whole groups and have room.
+fn further<R: Threads + Sync>(
+    rt: &R,
+    alloc: Global,
+    shape: Shape,
+    roller: &Roller,
+    entries: &[Shared<Entry>],
+) -> Result<Roller, Fail>
+    requires good { IsGoodShape shape }
+    requires same { roller.now.shape ≡ shape }
+    ensures { IfOk result (λ r. r.shape ≡ shape) }
+{
+    if entries.len() % usize::from(shape.group) != 0 {
+        return Err(Fail::new("a group is cut"));
+    }
+    let room = shape.cap.saturating_sub(roller.at()) as usize;
+    if room < entries.len() || shape.cap < roller.at() {
+        return Err(Fail::new("the log is full"));
+    }
+    Ok(roller.roll(rt, alloc, entries, 1, &OpenGate)?)
+}
+
+// What is saved of a roller.
+fn saved(alloc: Global, shape: Shape, roller: &Roller) -> Result<MemDisk, Fail>
+    requires { shape ≡ roller.now.shape }
+{
+    let mut disk = device(alloc, &[])?;
+    match save(alloc, shape, roller, &mut disk) {
+        Ok(()) => Ok(disk),
+        Err(_) => Err("not saved")?,
     }
 }
 
 // What is saved of the roller of these entries.
-fn saved<R: Threads + Sync>(
+fn rolled<R: Threads + Sync>(
     rt: &R,
     alloc: Global,
     shape: Shape,
@@ -180,14 +194,9 @@ fn saved<R: Threads + Sync>(
 ) -> Result<MemDisk, Fail>
     requires { IsGoodShape shape }
 {
-    if entries.len() % usize::from(shape.group) != 0 || entries.len() > shape.cap as usize {
-        return Err(Fail::new("the entries are no whole groups of the log"));
-    }
     let start = Roller::new(alloc, shape)?;
-    let roller = start.roll(rt, alloc, entries, 1, &OpenGate)?;
-    let mut disk = device(alloc, &[])?;
-    save(alloc, shape, &roller, &mut disk)?;
-    Ok(disk)
+    let roller = further(rt, alloc, shape, &start, entries)?;
+    saved(alloc, shape, &roller)
 }
 
 #[test]
@@ -195,18 +204,23 @@ fn a_roller_is_saved_by_its_flags(rt: HostRuntime) -> Result<(), Fail> {
     let alloc = rt.alloc();
     let first = entry(alloc, 0, 1, text(alloc)?)?;
     let filler = Shared::new(alloc, Entry::filler(1))?;
-    let disk = saved(&rt, alloc, TWO_BY_TWO, &[first, filler])?;
+    let disk = rolled(&rt, alloc, TWO_BY_TWO, &[first, filler])?;
     assert_eq!(rt; disk.bytes(), page(&FIRST_GROUP).as_slice());
     Ok(())
+}
+
+// A put of key 9, a deletion of key 4, and a put of it.
+fn three(alloc: Global) -> Result<[Shared<Entry>; 3], Fail> {
+    let first = entry(alloc, 0, 9, text(alloc)?)?;
+    let second = entry(alloc, 1, 4, None)?;
+    let third = entry(alloc, 2, 4, text(alloc)?)?;
+    Ok([first, second, third])
 }
 
 #[test]
 fn a_roller_is_saved_by_the_rows_at_its_base(rt: HostRuntime) -> Result<(), Fail> {
     let alloc = rt.alloc();
-    let first = entry(alloc, 0, 9, text(alloc)?)?;
-    let second = entry(alloc, 1, 4, None)?;
-    let third = entry(alloc, 2, 4, text(alloc)?)?;
-    let disk = saved(&rt, alloc, ONE_BY_ONE, &[first, second, third])?;
+    let disk = rolled(&rt, alloc, ONE_BY_ONE, &three(alloc)?)?;
     assert_eq!(rt; disk.bytes(), page(&THREE_ENTRIES).as_slice());
     Ok(())
 }
