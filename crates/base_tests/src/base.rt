@@ -1,4 +1,4 @@
-//! Types are made and read at the ends of its ranges, with answers counted by hand.
+//! Types are made and read at the ends of their ranges, with answers counted by hand.
 ghost use Rattle.std.specs.Prelude.{◌≡◌, ◌<◌};
 
 use hy_base::*;
