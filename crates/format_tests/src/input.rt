@@ -25,7 +25,7 @@ fn has_no_schedule(alloc: Global, text: &str) -> bool {
 
 #[test]
 fn reads_a_script_with_its_schedule(rt: HostRuntime) -> Result<(), Fail> {
-    let text = b"shape 1 1 8\nservers 1\nclient 1\nschedule\nb 1\n# one\na 1\n";
+    let text = "shape 1 1 8\nservers 1\nclient 1\nschedule\nb 1\n# one\na 1\n".as_bytes();
     let Ok(input) = read(rt.alloc(), text, true) else {
         return Err(Fail::new("the input is read"));
     };

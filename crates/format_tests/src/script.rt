@@ -43,7 +43,7 @@ fn script_of(alloc: Global, text: &[u8]) -> Option<Script> {
 #[test]
 fn reads_a_script(rt: HostRuntime) -> Result<(), Fail> {
     let text =
-        b"# one\nshape 1 1 9\n\nservers 2\nclient 2\nbegin\nget 0\nput 1 #~\ndel 3\nadd 4 9\nscan 5 6 1000\nend\nbegin\nend";
+        "# one\nshape 1 1 9\n\nservers 2\nclient 2\nbegin\nget 0\nput 1 #~\ndel 3\nadd 4 9\nscan 5 6 1000\nend\nbegin\nend".as_bytes();
     let Some(script) = script_of(rt.alloc(), text) else {
         return Err(Fail::new("the script is read"));
     };
@@ -80,7 +80,7 @@ fn schedule_of(alloc: Global, text: &[u8]) -> Result<(ScheduleStart, Items<Event
 #[test]
 fn reads_a_schedule(rt: HostRuntime) -> Result<(), Fail> {
     let text =
-        b"shape 1 1 8\nservers 1\nclient 1\nschedule\nb 1\n# one\na 1\n\ne 1\nf 1\np 1\nr 1 4294967295";
+        "shape 1 1 8\nservers 1\nclient 1\nschedule\nb 1\n# one\na 1\n\ne 1\nf 1\np 1\nr 1 4294967295".as_bytes();
     let (start, events) = schedule_of(rt.alloc(), text)?;
     assert!(rt; start.offset == 40 && start.line == 5);
     let wanted = [
@@ -213,7 +213,7 @@ fn refuses_commands_and_events(rt: HostRuntime) -> Result<(), Fail> {
 #[test]
 fn refuses_a_schedule_outside_simulations(rt: HostRuntime) -> Result<(), Fail> {
     let alloc = rt.alloc();
-    let text = b"shape 1 1 8\nservers 1\nschedule\nx\n";
+    let text = "shape 1 1 8\nservers 1\nschedule\nx\n".as_bytes();
     assert!(rt; refusal(alloc, text, false)? == Some((3, Why::Word)));
     // In a simulation the lines after it are another call's.
     assert!(rt; read_script(alloc, text, true).is_ok());

@@ -49,7 +49,9 @@ const SHAPE: Shape = Shape {
 };
 
 fn three_entries(alloc: Global) -> Result<Vec<Entry>, Fail> {
-    Ok(vec![in alloc; three_deletes(alloc)?, Entry::filler(4), one_put(alloc)?]?)
+    let first = three_deletes(alloc)?;
+    let last = one_put(alloc)?;
+    Ok(vec![in alloc; first, Entry::filler(4), last]?)
 }
 
 fn dump_of_three(alloc: Global) -> Result<Vec<u8>, Fail> {
@@ -61,8 +63,8 @@ fn dump_of_three(alloc: Global) -> Result<Vec<u8>, Fail> {
 fn a_log_with_an_open_group_is_dumped(rt: HostRuntime) -> Result<(), Fail> {
     let dump = dump_of_three(rt.alloc())?;
     let wanted =
-        b"log group 2 window 3 cap 64 entries 3\nentry 1 server 8 client 128 snap 7 points 1 spans 2 writes 3\nentry 2 server 4 filler\nentry 3 server 1 client 1 snap 0 points 0 spans 0 writes 1\n";
-    assert!(rt; dump.as_slice() == wanted.as_slice());
+        "log group 2 window 3 cap 64 entries 3\nentry 1 server 8 client 128 snap 7 points 1 spans 2 writes 3\nentry 2 server 4 filler\nentry 3 server 1 client 1 snap 0 points 0 spans 0 writes 1\n".as_bytes();
+    assert!(rt; dump.as_slice() == wanted);
     Ok(())
 }
 
@@ -74,8 +76,8 @@ fn check_of_three(alloc: Global, verdicts: &[Option<Verdict>]) -> Result<Vec<u8>
 fn an_open_group_waits(rt: HostRuntime) -> Result<(), Fail> {
     let refused = Some(Verdict::Pre(Clash { key: 1, by: 7 }));
     let check = check_of_three(rt.alloc(), &[refused, None])?;
-    let wanted = b"at 1 abort pre 1 by 7\nat 2 filler\nat 3 waits\nstate 2 rows 0\n";
-    assert!(rt; check.as_slice() == wanted.as_slice());
+    let wanted = "at 1 abort pre 1 by 7\nat 2 filler\nat 3 waits\nstate 2 rows 0\n".as_bytes();
+    assert!(rt; check.as_slice() == wanted);
     Ok(())
 }
 
@@ -117,8 +119,8 @@ fn a_load_is_summed_up(rt: HostRuntime) -> Result<(), Fail> {
     ];
     let summary = summary(rt.alloc(), &verdicts)?;
     let wanted =
-        b"load seed 18446744073709551615 size 80000\nentries 2 fillers 1\ncommit 1 pre 0 mate 1 final 2 read 3\nstate 2 rows 1\n";
-    assert!(rt; summary.as_slice() == wanted.as_slice());
+        "load seed 18446744073709551615 size 80000\nentries 2 fillers 1\ncommit 1 pre 0 mate 1 final 2 read 3\nstate 2 rows 1\n".as_bytes();
+    assert!(rt; summary.as_slice() == wanted);
     Ok(())
 }
 
@@ -129,8 +131,8 @@ fn page(alloc: Global) -> Result<Vec<u8>, AllocError> {
 
 #[test]
 fn lines_of_refusals_are_written(rt: HostRuntime) -> Result<(), Fail> {
-    let wanted = b"hyder: log page 5000000000 length\n";
-    assert!(rt; page(rt.alloc())?.as_slice() == wanted.as_slice());
-    assert!(rt; memory_line() == b"hyder: memory\n".as_slice());
+    let wanted = "hyder: log page 5000000000 length\n".as_bytes();
+    assert!(rt; page(rt.alloc())?.as_slice() == wanted);
+    assert!(rt; memory_line() == "hyder: memory\n".as_bytes());
     Ok(())
 }
