@@ -1,4 +1,4 @@
-//! Tests of `hy_base`, `hy_rules`, `hy_io` and `hy_mem`: each public call once with ample memory, texts, and answers counted
+//! Tests of `hy_base`, `hy_rules`, `hy_io` and `hy_mem`: public calls with ample memory, texts, and answers counted
 //! by hand. It promises nothing to a crate above.
 #![tactic(auto)]
 

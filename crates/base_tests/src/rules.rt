@@ -13,23 +13,14 @@ fn sum(alloc: Global, client: u8) -> Result<Entry, Fail>
     requires { IsClientNumber client }
     ensures { IfOk result (λ e. (pos : ℕ) → HasLawfulSnap (record { group = 1; window = 1; cap = 8 }) pos e) }
 {
-    let Ok(value) = Value::new(vec![in alloc; b'1']?) else {
-        return Err(Fail::new("the value is refused"));
-    };
-    let mut points = Items::new(alloc);
-    points.push(7)?;
-    let mut writes = Items::new(alloc);
-    writes.push(Write {
-        key: 7,
-        value: Some(value),
-    })?;
+    let value = Value::new(vec![in alloc; b'1']?).ok();
     Ok(Entry::transaction(Intention {
         server: 1,
         client,
         snap: 0,
-        points,
+        points: Items::from_vec(vec![in alloc; 7]?),
         spans: Items::new(alloc),
-        writes,
+        writes: Items::from_vec(vec![in alloc; Write { key: 7, value }]?),
     }))
 }
 

@@ -1,11 +1,12 @@
 //! Pages as bytes, with values counted by hand.
+ghost use Rattle.std.specs.Prelude.{◌≤◌, length};
 
 use hy_base::Shape;
 use hy_formats::Damage;
 use hy_pages::{
     are_zeros, fill_page, header_of, is_unborn, pages_of, read_gate, read_header, read_len,
 };
-use std::alloc::Global;
+use std::alloc::{AllocError, Global};
 use std::process::Abort;
 use std::test::Fail;
 
@@ -20,22 +21,34 @@ const PUT: [u8; 22] = [
     1, 1, 1, 0, 0, 0, 0, 0, 0, 1, 1, 0, 0, 0, 0, 0, 0, 0, 1, 1, 0, b'a',
 ];
 
-#[test]
-fn writes_a_log_of_one_put(rt: HostRuntime) {
-    let page = header_of(SHAPE);
-    assert_eq!(rt; &page[..16], b"GHYDERLOG\x01\x01\x01\x08\0\0\0".as_slice());
-    assert!(rt; are_zeros(&page[16..]));
-    let mut rest = [0xff; 256];
-    assert_eq!(rt; pages_of(PUT.len()), 1);
-    fill_page(&PUT, &mut rest);
-    assert_eq!(rt; &rest[..4], [22, 0, 0, 0].as_slice());
-    assert_eq!(rt; &rest[4..26], PUT.as_slice());
-    assert!(rt; are_zeros(&rest[26..]));
-    // With the record's gate these are the bytes of the device.
-    assert_eq!(rt; page.len() + 1 + rest.len(), 513);
+// Whether a page begins with these bytes, and is 0 behind them.
+fn is_padded(page: &[u8], bytes: &[u8]) -> bool {
+    page.starts_with(bytes) && are_zeros(&page[bytes.len().min(page.len())..])
 }
 
-// Fills the pages of a body, over what an older record left there.
+#[test]
+fn writes_a_log_of_one_put(rt: HostRuntime) {
+    assert!(rt; is_padded(&header_of(SHAPE), b"GHYDERLOG\x01\x01\x01\x08"));
+    let mut rest = [0xff; 256];
+    fill_page(&PUT, &mut rest);
+    assert!(rt; has_body(&rest, [22, 0, 0, 0], &PUT));
+}
+
+// The pages of a body, over what an older record left there.
+fn filled(alloc: Global, body: &[u8]) -> Result<Vec<u8>, AllocError>
+    requires some { 1 ≤ length body.now }
+    requires most { length body.now ≤ 18634 }
+{
+    let mut rest = vec![in alloc; 0xff; 256 * pages_of(body.len())]?;
+    fill_page(body, &mut rest);
+    Ok(rest)
+}
+
+// Whether the pages have a body behind this word.
+fn has_body(rest: &[u8], word: [u8; 4], body: &[u8]) -> bool {
+    rest.len() >= 4 && &rest[..4] == word.as_slice() && is_padded(&rest[4..], body)
+}
+
 fn check_record(
     rt: &impl Abort,
     alloc: Global,
@@ -44,14 +57,11 @@ fn check_record(
     word: [u8; 4],
 ) -> Result<(), Fail> {
     assert!(rt; len >= 1 && len <= 18634);
-    assert_eq!(rt; pages_of(len), pages);
     let body = vec![in alloc; b'x'; len]?;
-    let mut rest = vec![in alloc; 0xff; 256 * pages_of(len)]?;
-    fill_page(&body, &mut rest);
-    assert_eq!(rt; &rest[..4], word.as_slice());
-    assert_eq!(rt; &rest[4..4 + len], body.as_slice());
-    assert!(rt; are_zeros(&rest[4 + len..]));
-    assert_eq!(rt; read_len(word) as usize, len);
+    let rest = filled(alloc, &body)?;
+    assert!(rt; pages_of(len) == pages);
+    assert!(rt; has_body(&rest, word, &body));
+    assert!(rt; read_len(word) as usize == len);
     Ok(())
 }
 
@@ -82,6 +92,11 @@ fn damaged(changes: &[(usize, u8)]) -> [u8; 256] {
     page
 }
 
+// What the front of the header tells.
+fn read_cut(size: usize) -> Result<Shape, Damage> {
+    read_header(&header_of(SHAPE)[..size.min(256)])
+}
+
 #[test]
 fn headers_are_refused(rt: HostRuntime) {
     let rows: [(&[(usize, u8)], Damage); 17] = [
@@ -104,30 +119,47 @@ fn headers_are_refused(rt: HostRuntime) {
         (&[(255, 1)], Damage::Fill),
     ];
     for (changes, why) in rows {
-        assert_eq!(rt; read_header(&damaged(changes)), Err(why));
+        assert!(rt; read_header(&damaged(changes)) == Err(why));
     }
-    let page = header_of(SHAPE);
-    assert_eq!(rt; read_header(&page), Ok(SHAPE));
-    assert_eq!(rt; read_header(&page[..255]), Err(Damage::Short));
-    assert_eq!(rt; read_header(&[]), Err(Damage::Gate));
+    for (size, wanted) in [
+        (256, Ok(SHAPE)),
+        (255, Err(Damage::Short)),
+        (0, Err(Damage::Gate)),
+    ] {
+        assert!(rt; read_cut(size) == wanted);
+    }
+}
+
+// Whether a device is unborn that has a header with this gate, this byte behind the header, and so many bytes.
+fn is_torn(gate: u8, next: u8, size: usize) -> bool {
+    let mut bytes = [0; 300];
+    bytes[..256].copy_from_slice(&header_of(SHAPE));
+    bytes[0] = gate;
+    bytes[256] = next;
+    is_unborn(&bytes[..size.min(300)])
 }
 
 #[test]
 fn unborn_devices_are_told(rt: HostRuntime) {
-    let mut torn = [0; 300];
-    torn[..256].copy_from_slice(&header_of(SHAPE));
-    assert!(rt; !is_unborn(&torn));
-    torn[0] = 9;
-    assert!(rt; is_unborn(&torn));
-    assert!(rt; is_unborn(&torn[..257]));
-    assert!(rt; !is_unborn(&torn[..256]));
-    torn[256] = 0x47;
-    assert!(rt; !is_unborn(&torn));
-    assert!(rt; is_unborn(&[]));
-    assert!(rt; is_unborn(&[0x47]));
-    assert!(rt; is_unborn(&[0; 20]));
-    assert!(rt; !is_unborn(&[0x46; 20]));
+    for (gate, next, size, wanted) in [
+        (0x47, 0, 300, false),
+        (9, 0, 300, true),
+        (9, 0, 257, true),
+        (9, 0, 256, false),
+        (9, 0x47, 300, false),
+    ] {
+        assert!(rt; is_torn(gate, next, size) == wanted, "{gate} {next} {size}");
+    }
+    let rows: [(&[u8], bool); 4] = [
+        (&[], true),
+        (&[0x47], true),
+        (&[0; 20], true),
+        (&[0x46; 20], false),
+    ];
+    for (front, wanted) in rows {
+        assert!(rt; is_unborn(front) == wanted);
+    }
     for (byte, is_open) in [(0x47, true), (0, false), (0x46, false), (0xff, false)] {
-        assert_eq!(rt; read_gate(byte), is_open);
+        assert!(rt; read_gate(byte) == is_open);
     }
 }

@@ -1,5 +1,5 @@
 //! Scripts and schedules that are read and refused.
-use hy_base::{Command, Event, Program, Script};
+use hy_base::{Command, Event, Items, Program, Script};
 use hy_script::{EventLine, ReadError, Refused, ScheduleStart, Why, read_schedule, read_script};
 use std::alloc::Global;
 use std::test::Fail;
@@ -32,17 +32,25 @@ fn are_told(commands: &[Command], wanted: &[(&str, u64, u64, u64)]) -> bool {
             .all(|(command, wanted)| told(command) == *wanted)
 }
 
+// The script, if it is read.
+fn script_of(alloc: Global, text: &[u8]) -> Option<Script> {
+    match read_script(alloc, text, false) {
+        Ok(reading) => Some(reading.script),
+        Err(_) => None,
+    }
+}
+
 #[test]
 fn reads_a_script(rt: HostRuntime) -> Result<(), Fail> {
     let text =
-        b"# one\nshape 1 1 9\n\nservers 2\nclient 2\nbegin\nget 0\nput 1 #~\ndel 3\nadd 4 9\nscan 5 6 1000\nend\nbegin\nend";
-    let Ok(reading) = read_script(rt.alloc(), text, false) else {
+        "# one\nshape 1 1 9\n\nservers 2\nclient 2\nbegin\nget 0\nput 1 #~\ndel 3\nadd 4 9\nscan 5 6 1000\nend\nbegin\nend".as_bytes();
+    let Some(script) = script_of(rt.alloc(), text) else {
         return Err(Fail::new("the script is read"));
     };
-    assert_eq!(rt; reading.script.shape().cap, 9);
-    assert_eq!(rt; reading.script.servers(), 2);
-    let programs = first_programs(&reading.script);
-    assert_eq!(rt; programs.len(), 2);
+    assert!(rt; script.shape().cap == 9 && script.servers() == 2);
+    let [first, second] = first_programs(&script) else {
+        return Err(Fail::new("the client has two programs"));
+    };
     let wanted = [
         ("get", 0, 0, 0),
         ("put", 1, 2, 0),
@@ -50,32 +58,31 @@ fn reads_a_script(rt: HostRuntime) -> Result<(), Fail> {
         ("add", 4, 9, 0),
         ("scan", 5, 6, 1000),
     ];
-    assert!(rt; are_told(programs[0].commands.as_slice(), &wanted));
-    assert!(rt; are_told(programs[1].commands.as_slice(), &[]));
+    assert!(rt; are_told(first.commands.as_slice(), &wanted));
+    assert!(rt; second.commands.len() == 0);
     Ok(())
 }
 
-#[test]
-fn reads_a_schedule(rt: HostRuntime) -> Result<(), Fail> {
-    let text =
-        b"shape 1 1 8\nservers 1\nclient 1\nschedule\nb 1\n# one\na 1\n\ne 1\nf 1\np 1\nr 1 4294967295";
-    let alloc = rt.alloc();
+// Where the schedule starts, and its events.
+fn schedule_of(alloc: Global, text: &[u8]) -> Result<(ScheduleStart, Items<EventLine>), Fail> {
     let Ok(reading) = read_script(alloc, text, true) else {
         return Err(Fail::new("the script is read"));
     };
     let Some(start) = reading.schedule else {
         return Err(Fail::new("there is a schedule"));
     };
-    assert_eq!(rt;
-        start,
-        ScheduleStart {
-            offset: 40,
-            line: 5
-        }
-    );
-    let Ok(events) = read_schedule(alloc, &text[start.offset..], start.line, &reading.script) else {
-        return Err(Fail::new("the schedule is read"));
-    };
+    match read_schedule(alloc, &text[start.offset..], start.line, &reading.script) {
+        Ok(events) => Ok((start, events)),
+        Err(_) => Err(Fail::new("the schedule is read")),
+    }
+}
+
+#[test]
+fn reads_a_schedule(rt: HostRuntime) -> Result<(), Fail> {
+    let text =
+        "shape 1 1 8\nservers 1\nclient 1\nschedule\nb 1\n# one\na 1\n\ne 1\nf 1\np 1\nr 1 4294967295".as_bytes();
+    let (start, events) = schedule_of(rt.alloc(), text)?;
+    assert!(rt; start.offset == 40 && start.line == 5);
     let wanted = [
         EventLine {
             line: 5,
@@ -105,7 +112,7 @@ fn reads_a_schedule(rt: HostRuntime) -> Result<(), Fail> {
             },
         },
     ];
-    assert_eq!(rt; events.as_slice(), wanted.as_slice());
+    assert!(rt; events.as_slice() == wanted.as_slice());
     Ok(())
 }
 
@@ -206,11 +213,11 @@ fn refuses_commands_and_events(rt: HostRuntime) -> Result<(), Fail> {
 #[test]
 fn refuses_a_schedule_outside_simulations(rt: HostRuntime) -> Result<(), Fail> {
     let alloc = rt.alloc();
-    let text = b"shape 1 1 8\nservers 1\nschedule\nx\n";
-    assert_eq!(rt; refusal(alloc, text, false)?, Some((3, Why::Word)));
+    let text = "shape 1 1 8\nservers 1\nschedule\nx\n".as_bytes();
+    assert!(rt; refusal(alloc, text, false)? == Some((3, Why::Word)));
     // In a simulation the lines after it are another call's.
     assert!(rt; read_script(alloc, text, true).is_ok());
-    assert_eq!(rt; refusal(alloc, text, true)?, Some((4, Why::Word)));
+    assert!(rt; refusal(alloc, text, true)? == Some((4, Why::Word)));
     Ok(())
 }
 
@@ -230,6 +237,18 @@ fn repeated(
     Ok(text)
 }
 
+fn refusal_of_repeated(
+    alloc: Global,
+    front: &str,
+    piece: &str,
+    count: u32,
+    end: &str,
+    sim: bool,
+) -> Result<Option<(u32, Why)>, Fail> {
+    let text = repeated(alloc, front, piece, count, end)?;
+    refusal(alloc, &text, sim)
+}
+
 #[test]
 fn counts_clients_programs_and_commands(rt: HostRuntime) -> Result<(), Fail> {
     let alloc = rt.alloc();
@@ -238,7 +257,13 @@ fn counts_clients_programs_and_commands(rt: HostRuntime) -> Result<(), Fail> {
     let commands = "shape 1 1 8\nservers 1\nclient 1\nbegin\n";
     let cases = [
         (clients, "client 1\nclient 8\n", 16, "client 2\n", None),
-        (clients, "client 1\nclient 8\n", 16, "client 8\n", Some(35)),
+        (
+            clients,
+            "client 1\nclient 8\n",
+            16,
+            "client 8\n",
+            Some((35, Why::Count)),
+        ),
         (
             programs,
             "begin\nend\n",
@@ -246,18 +271,25 @@ fn counts_clients_programs_and_commands(rt: HostRuntime) -> Result<(), Fail> {
             "client 1\nbegin\nend\n",
             None,
         ),
-        (programs, "begin\nend\n", 10001, "", Some(20004)),
+        (
+            programs,
+            "begin\nend\n",
+            10001,
+            "",
+            Some((20004, Why::Count)),
+        ),
         (commands, "add 7 1\n", 64, "end\n", None),
-        (commands, "add 7 1\n", 64, "del 7\nend\n", Some(69)),
+        (
+            commands,
+            "add 7 1\n",
+            64,
+            "del 7\nend\n",
+            Some((69, Why::Count)),
+        ),
     ];
-    for (front, piece, count, end, line) in cases {
-        let text = repeated(alloc, front, piece, count, end)?;
-        let refused = refusal(alloc, &text, false)?;
-        assert_eq!(rt;
-            refused,
-            line.map(|line| (line, Why::Count)),
-            "{count} times {piece}"
-        );
+    for (front, piece, count, end, wanted) in cases {
+        let refused = refusal_of_repeated(alloc, front, piece, count, end, false)?;
+        assert!(rt; refused == wanted, "{count} times {piece}");
     }
     Ok(())
 }
@@ -266,10 +298,10 @@ fn counts_clients_programs_and_commands(rt: HostRuntime) -> Result<(), Fail> {
 fn counts_bytes(rt: HostRuntime) -> Result<(), Fail> {
     let alloc = rt.alloc();
     // A source of the greatest length is read up to the line that is refused, and a longer one is not.
-    let most = repeated(alloc, "", "0123456\n", 2097152, "")?;
-    assert_eq!(rt; refusal(alloc, &most, true)?, Some((1, Why::Word)));
-    let longer = repeated(alloc, "", "0123456\n", 2097152, "\n")?;
-    assert_eq!(rt; refusal(alloc, &longer, true)?, Some((0, Why::Long)));
+    let most = refusal_of_repeated(alloc, "", "0123456\n", 2097152, "", true)?;
+    assert!(rt; most == Some((1, Why::Word)));
+    let longer = refusal_of_repeated(alloc, "", "0123456\n", 2097152, "\n", true)?;
+    assert!(rt; longer == Some((0, Why::Long)));
     Ok(())
 }
 
@@ -280,6 +312,6 @@ fn names_causes(rt: HostRuntime) -> Result<(), Fail> {
         why: Why::Disabled,
     });
     let text = format!(in rt.alloc(); "{refused}")?;
-    assert_eq!(rt; text.as_str(), "script line 8 disabled");
+    assert!(rt; text.as_str() == "script line 8 disabled");
     Ok(())
 }

@@ -5,7 +5,7 @@ use hy_base::{
     Clash, Entry, Intention, Items, Points, Row, Shape, Shared, Span, Spans, Value, Verdict, Write,
 };
 use hy_text::{memory_line, page_line, write_check, write_dump, write_summary};
-use std::alloc::Global;
+use std::alloc::{AllocError, Global};
 use std::test::Fail;
 
 // A transaction of client 1 on server 1 that writes the value `a` to key 1.
@@ -49,16 +49,22 @@ const SHAPE: Shape = Shape {
 };
 
 fn three_entries(alloc: Global) -> Result<Vec<Entry>, Fail> {
-    Ok(vec![in alloc; three_deletes(alloc)?, Entry::filler(4), one_put(alloc)?]?)
+    let first = three_deletes(alloc)?;
+    let last = one_put(alloc)?;
+    Ok(vec![in alloc; first, Entry::filler(4), last]?)
+}
+
+fn dump_of_three(alloc: Global) -> Result<Vec<u8>, Fail> {
+    let entries = three_entries(alloc)?;
+    Ok(write_dump(alloc, Some(SHAPE), &entries)?)
 }
 
 #[test]
 fn a_log_with_an_open_group_is_dumped(rt: HostRuntime) -> Result<(), Fail> {
-    let entries = three_entries(rt.alloc())?;
-    let dump = write_dump(rt.alloc(), Some(SHAPE), &entries)?;
+    let dump = dump_of_three(rt.alloc())?;
     let wanted =
-        b"log group 2 window 3 cap 64 entries 3\nentry 1 server 8 client 128 snap 7 points 1 spans 2 writes 3\nentry 2 server 4 filler\nentry 3 server 1 client 1 snap 0 points 0 spans 0 writes 1\n";
-    assert_eq!(rt; dump.as_slice(), wanted.as_slice());
+        "log group 2 window 3 cap 64 entries 3\nentry 1 server 8 client 128 snap 7 points 1 spans 2 writes 3\nentry 2 server 4 filler\nentry 3 server 1 client 1 snap 0 points 0 spans 0 writes 1\n".as_bytes();
+    assert!(rt; dump.as_slice() == wanted);
     Ok(())
 }
 
@@ -70,8 +76,8 @@ fn check_of_three(alloc: Global, verdicts: &[Option<Verdict>]) -> Result<Vec<u8>
 fn an_open_group_waits(rt: HostRuntime) -> Result<(), Fail> {
     let refused = Some(Verdict::Pre(Clash { key: 1, by: 7 }));
     let check = check_of_three(rt.alloc(), &[refused, None])?;
-    let wanted = b"at 1 abort pre 1 by 7\nat 2 filler\nat 3 waits\nstate 2 rows 0\n";
-    assert_eq!(rt; check.as_slice(), wanted.as_slice());
+    let wanted = "at 1 abort pre 1 by 7\nat 2 filler\nat 3 waits\nstate 2 rows 0\n".as_bytes();
+    assert!(rt; check.as_slice() == wanted);
     Ok(())
 }
 
@@ -82,10 +88,27 @@ fn one_and_a_filler(alloc: Global) -> Result<Vec<Shared<Entry>>, Fail> {
     Ok(vec![in alloc; one, filler]?)
 }
 
+// The summary of the greatest load, with these verdicts.
+fn summary(alloc: Global, verdicts: &[Option<Verdict>]) -> Result<Vec<u8>, Fail> {
+    let entries = one_and_a_filler(alloc)?;
+    let row = Row {
+        key: 1,
+        writer: 1,
+        value: None,
+    };
+    Ok(write_summary(
+        alloc,
+        18446744073709551615,
+        80000,
+        &entries,
+        verdicts,
+        3,
+        &[row],
+    )?)
+}
+
 #[test]
 fn a_load_is_summed_up(rt: HostRuntime) -> Result<(), Fail> {
-    let alloc = rt.alloc();
-    let entries = one_and_a_filler(alloc)?;
     let clash = Clash { key: 1, by: 7 };
     let verdicts = [
         Some(Verdict::Commit),
@@ -94,33 +117,22 @@ fn a_load_is_summed_up(rt: HostRuntime) -> Result<(), Fail> {
         Some(Verdict::Final(clash)),
         Some(Verdict::Final(clash)),
     ];
-    let row = Row {
-        key: 1,
-        writer: 1,
-        value: None,
-    };
-    let summary = write_summary(
-        alloc,
-        18446744073709551615,
-        80000,
-        &entries,
-        &verdicts,
-        3,
-        &[row],
-    )?;
+    let summary = summary(rt.alloc(), &verdicts)?;
     let wanted =
-        b"load seed 18446744073709551615 size 80000\nentries 2 fillers 1\ncommit 1 pre 0 mate 1 final 2 read 3\nstate 2 rows 1\n";
-    assert_eq!(rt; summary.as_slice(), wanted.as_slice());
+        "load seed 18446744073709551615 size 80000\nentries 2 fillers 1\ncommit 1 pre 0 mate 1 final 2 read 3\nstate 2 rows 1\n".as_bytes();
+    assert!(rt; summary.as_slice() == wanted);
     Ok(())
+}
+
+// The line of a damaged page.
+fn page(alloc: Global) -> Result<Vec<u8>, AllocError> {
+    page_line(alloc, 5000000000, "length")
 }
 
 #[test]
 fn lines_of_refusals_are_written(rt: HostRuntime) -> Result<(), Fail> {
-    let page = page_line(rt.alloc(), 5000000000, "length")?;
-    assert_eq!(rt;
-        page.as_slice(),
-        b"hyder: log page 5000000000 length\n".as_slice()
-    );
-    assert_eq!(rt; memory_line(), b"hyder: memory\n".as_slice());
+    let wanted = "hyder: log page 5000000000 length\n".as_bytes();
+    assert!(rt; page(rt.alloc())?.as_slice() == wanted);
+    assert!(rt; memory_line() == "hyder: memory\n".as_bytes());
     Ok(())
 }

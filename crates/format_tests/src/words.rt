@@ -1,6 +1,7 @@
 use hy_base::Words;
 use hy_cli::{CliError, Line, parse};
 use std::alloc::{AllocError, Global};
+use std::process::Abort;
 use std::test::Fail;
 
 // The words, with a space between them.
@@ -9,7 +10,12 @@ fn read(alloc: Global, line: &str) -> Result<Result<Line, CliError>, AllocError>
     for word in line.split(' ') {
         words.push(word)?;
     }
-    Ok(parse(alloc, &words))
+    Ok(parsed(alloc, &words))
+}
+
+// Without its contract.
+fn parsed(alloc: Global, words: &Words) -> Result<Line, CliError> {
+    parse(alloc, words)
 }
 
 fn run(threads: u8, point: bool, save: bool) -> Line {
@@ -52,11 +58,18 @@ fn lines_are_obeyed(rt: HostRuntime) -> Result<(), Fail> {
     Ok(())
 }
 
+fn check_refused(rt: &impl Abort, alloc: Global, lines: &[&str]) -> Result<(), Fail> {
+    for line in lines {
+        assert!(rt; read(alloc, line)? == Err(CliError::Usage), "{line}");
+    }
+    Ok(())
+}
+
 #[test]
 fn other_words_are_refused(rt: HostRuntime) -> Result<(), Fail> {
     let alloc = rt.alloc();
-    assert!(rt; parse(alloc, &Words::new(alloc)) == Err(CliError::Usage));
-    let table = [
+    assert!(rt; parsed(alloc, &Words::new(alloc)) == Err(CliError::Usage));
+    let lines = [
         "hyder",
         "hyder frob",
         "hyder Sim",
@@ -85,8 +98,5 @@ fn other_words_are_refused(rt: HostRuntime) -> Result<(), Fail> {
         "hyder load --seed 18446744073709551616 --size 1",
         "hyder load --seed 7 --size 1 --save",
     ];
-    for line in table {
-        assert!(rt; read(alloc, line)? == Err(CliError::Usage));
-    }
-    Ok(())
+    check_refused(&rt, alloc, &lines)
 }
