@@ -32,21 +32,25 @@ const SAVED: &[u8] = b"shape 2 2 8\nservers 1\nclient 1\nbegin\nput 1 a\nend\n";
 // The device of a log, and that of its saved point.
 type Devices = (MemDisk, MemDisk);
 
-// A call over two devices without room, which hands them back as they were.
+// A simulated run over two devices without room, which hands them back as they were.
 fn simulated_on<R: Threads + Wait + Sync>(
     rt: &R,
     alloc: Global,
-    asked: &[&str],
     source: &mut MemSource,
     sink: &mut MemSink,
 ) -> Result<Done<MemDisk>, Fail> {
     let log = MemDisk::new(alloc, b"untouched", &[1])?;
     let points = MemDisk::new(alloc, b"points", &[1])?;
-    let done = call_on(rt, alloc, asked, source, sink, (log, points), &OpenGate)?;
-    if done.log.faults() != 0 || done.points.faults() != 0 {
+    let done = call_on(rt, alloc, &["sim"], source, sink, (log, points), &OpenGate)?;
+    if is_touched(&done) {
         return Err("a device was used")?;
     }
     Ok(done)
+}
+
+// Whether a device was called that fails at its first call.
+fn is_touched(done: &Done<MemDisk>) -> bool {
+    done.log.faults() != 0 || done.points.faults() != 0
 }
 
 // A call that was refused, with no entry in its log, and its line.
@@ -58,68 +62,93 @@ fn refused(number: u8, text: &[u8]) -> Answer<'_> {
     }
 }
 
-// A simulated run whose source, in pieces of this length, fails at a call. It tells whether the source wasn't called so often.
+// A simulated run of two sums, with pieces of these lengths, and the calls of the source and of the sink that fail.
+fn two_sums<R: Threads + Wait + Sync>(
+    rt: &R,
+    alloc: Global,
+    pieces: (usize, usize),
+    source_fails: &[u64],
+    sink_fails: &[u64],
+) -> Result<(Done<MemDisk>, MemSink), Fail> {
+    let mut source = MemSource::new(alloc, TWO_SUMS, pieces.0.max(1), source_fails)?;
+    let mut sink = MemSink::new(alloc, 1000, pieces.1.max(1), sink_fails)?;
+    let done = simulated_on(rt, alloc, &mut source, &mut sink)?;
+    Ok((done, sink))
+}
+
+// Whether it ended as if nothing failed. None where it ended neither so nor with this refusal.
+fn outcome(done: &Done<MemDisk>, sink: &MemSink, refusal: Answer<'_>) -> Option<bool> {
+    if is_answered(done, sink, fine(0, TWO_SUMS_OUT)) {
+        return Some(true);
+    }
+    if is_answered(done, sink, refusal) {
+        return Some(false);
+    }
+    None
+}
+
+// Whether a source, in pieces of this length, wasn't called so often; its call of this number fails.
 fn source_fails<R: Threads + Wait + Sync>(
     rt: &R,
     alloc: Global,
     most: usize,
     number: u64,
-) -> Result<bool, Fail> {
-    let mut source = MemSource::new(alloc, TWO_SUMS, most.max(1), &[number])?;
-    let mut sink = MemSink::new(alloc, 1000, 1000, &[])?;
-    let done = simulated_on(rt, alloc, &["sim"], &mut source, &mut sink)?;
-    if is_answered(&done, &sink, fine(0, TWO_SUMS_OUT)) {
-        return Ok(true);
-    }
-    if !is_answered(&done, &sink, refused(3, b"hyder: source\n")) {
-        return Err("the source failed")?;
-    }
-    Ok(false)
+) -> Result<Option<bool>, Fail> {
+    let (done, sink) = two_sums(rt, alloc, (most, 1000), &[number], &[])?;
+    Ok(outcome(&done, &sink, refused(3, b"hyder: source\n")))
 }
 
-// The same of its sink, which has the pieces before.
+// What a sink has taken in pieces of this length before its call of this number.
+fn before(most: usize, number: u64) -> &'static [u8] {
+    let taken = most.saturating_mul(number.saturating_sub(1) as usize);
+    &TWO_SUMS_OUT[..taken.min(TWO_SUMS_OUT.len())]
+}
+
+// The same of a sink, which has the pieces before.
 fn sink_fails<R: Threads + Wait + Sync>(
     rt: &R,
     alloc: Global,
     most: usize,
     number: u64,
-) -> Result<bool, Fail> {
-    let mut source = MemSource::new(alloc, TWO_SUMS, 7, &[])?;
-    let mut sink = MemSink::new(alloc, 1000, most.max(1), &[number])?;
-    let done = simulated_on(rt, alloc, &["sim"], &mut source, &mut sink)?;
-    if is_answered(&done, &sink, fine(0, TWO_SUMS_OUT)) {
-        return Ok(true);
+) -> Result<Option<bool>, Fail> {
+    let (done, sink) = two_sums(rt, alloc, (7, most), &[], &[number])?;
+    Ok(outcome(&done, &sink, refused(4, before(most, number))))
+}
+
+// How many calls of a source, or of a sink, fail in turn until one isn't reached, in pieces of this length. None where a run
+// ended otherwise.
+fn failing_calls<R: Threads + Wait + Sync>(
+    rt: &R,
+    alloc: Global,
+    of_source: bool,
+    most: usize,
+) -> Result<Option<u64>, Fail> {
+    for number in 1..1000 {
+        let ended = if of_source {
+            source_fails(rt, alloc, most, number)?
+        } else {
+            sink_fails(rt, alloc, most, number)?
+        };
+        match ended {
+            Some(true) => return Ok(Some(number - 1)),
+            Some(false) => {}
+            None => return Ok(None),
+        }
     }
-    let taken = most.saturating_mul(number.saturating_sub(1) as usize);
-    let Some(before) = TWO_SUMS_OUT.get(..taken) else {
-        return Err("no such piece")?;
-    };
-    if !is_answered(&done, &sink, refused(4, before)) {
-        return Err("the sink failed")?;
-    }
-    Ok(false)
+    Ok(None)
 }
 
 #[test]
 fn a_source_and_a_sink_fail_at_each_call(rt: HostRuntime) -> Result<(), Fail> {
-    let alloc = rt.alloc();
-    let (mut sources, mut sinks) = (0u32, 0u32);
-    for most in 1..17 {
-        for number in 1..1000 {
-            if source_fails(&rt, alloc, most, number)? {
-                break;
-            }
-            sources = sources.wrapping_add(1);
+    for (of_source, wanted) in [(true, 366), (false, 467)] {
+        let mut calls = 0u64;
+        for most in 1..17 {
+            let count = failing_calls(&rt, rt.alloc(), of_source, most)?;
+            assert!(rt; count.is_some(), "pieces of {most}");
+            calls = calls.wrapping_add(count.unwrap_or(0));
         }
-        for number in 1..1000 {
-            if sink_fails(&rt, alloc, most, number)? {
-                break;
-            }
-            sinks = sinks.wrapping_add(1);
-        }
+        assert_eq!(rt; calls, wanted);
     }
-    println!(rt; "{sources} failing sources, {sinks} failing sinks")?;
-    assert!(rt; sources > 300 && sinks > 300);
     Ok(())
 }
 
@@ -129,7 +158,7 @@ fn a_sink_of_a_refusal_fails(rt: HostRuntime) -> Result<(), Fail> {
     let alloc = rt.alloc();
     let mut source = MemSource::new(alloc, SHORT_PUT, 7, &[])?;
     let mut sink = MemSink::new(alloc, 1000, 10, &[2])?;
-    let done = simulated_on(&rt, alloc, &["sim"], &mut source, &mut sink)?;
+    let done = simulated_on(&rt, alloc, &mut source, &mut sink)?;
     assert!(rt; is_answered(&done, &sink, refused(2, b"hyder: scr")));
     Ok(())
 }
@@ -248,8 +277,42 @@ fn looked<R: Threads + Wait + Sync>(
 
 const GET: &[u8] = b"shape 2 2 8\nservers 1\nclient 1\nbegin\nget 1\nend\n";
 
+// Whether a run that saves ended well, how many entries it acknowledged, and what a crash leaves of its devices.
+fn left<R: Threads + Wait + Sync>(
+    rt: &R,
+    alloc: Global,
+    devices: Devices,
+    line: &[u8],
+    pattern: u8,
+) -> Result<(bool, Pos, Devices), Fail>
+    requires { pattern ≤ 2 }
+{
+    let done = saving(rt, alloc, devices, line)?;
+    let is_fine = ended_well(&done);
+    let devices = (done.log.stop(pattern), done.points.stop(pattern));
+    Ok((is_fine, done.acked, devices))
+}
+
+// Whether a run from the point writes what one from the start writes.
+fn leads_there<R: Threads + Wait + Sync>(
+    rt: &R,
+    alloc: Global,
+    log: &[u8],
+    points: &[u8],
+) -> Result<bool, Fail> {
+    let from_point = looked(rt, alloc, &["run", "--point"], log, points)?;
+    let from_start = looked(rt, alloc, &["run"], log, points)?;
+    Ok(from_point.taken() == from_start.taken())
+}
+
+// How many entries the log on a device has.
+fn recovered<R: Threads + Wait + Sync>(rt: &R, alloc: Global, log: MemDisk) -> Result<Pos, Fail> {
+    let (done, _) = ask(rt, alloc, &["recover"], b"", log)?;
+    Ok(done.acked)
+}
+
 // What a crash leaves of a run that saves: the entries that were acknowledged, and perhaps one batch more, which here is one
-// entry; and a point from which a run comes to the same as from the start.
+// entry; and a point from which a run comes to the same as from the start. It tells whether the run ended well.
 fn is_left_whole<R: Threads + Wait + Sync>(
     rt: &R,
     alloc: Global,
@@ -259,23 +322,15 @@ fn is_left_whole<R: Threads + Wait + Sync>(
 ) -> Result<bool, Fail>
     requires { pattern ≤ 2 }
 {
-    let Done {
-        status,
-        log,
-        points,
-        acked,
-    } = saving(rt, alloc, devices, line)?;
-    let (log, points) = (log.stop(pattern), points.stop(pattern));
-    let from_point = looked(rt, alloc, &["run", "--point"], log.bytes(), points.bytes())?;
-    let from_start = looked(rt, alloc, &["run"], log.bytes(), points.bytes())?;
-    if from_point.taken() != from_start.taken() {
+    let (is_fine, acked, (log, points)) = left(rt, alloc, devices, line, pattern)?;
+    if !leads_there(rt, alloc, log.bytes(), points.bytes())? {
         return Err("a point leads elsewhere")?;
     }
-    let (done, _) = ask(rt, alloc, &["recover"], b"", log)?;
-    if done.acked != acked && done.acked.checked_sub(1) != Some(acked) {
+    let count = recovered(rt, alloc, log)?;
+    if count != acked && count.checked_sub(1) != Some(acked) {
         return Err("an acknowledged entry is lost")?;
     }
-    Ok(status == Status::Fine)
+    Ok(is_fine)
 }
 
 #[test]
