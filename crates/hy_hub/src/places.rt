@@ -17,9 +17,9 @@ impl Places {
     /// The places of so many clients. `AllocError` where memory is wanting.
     pub fn new(alloc: Global, clients: usize) -> Result<Places, AllocError> {
         let mut places = Vec::new(alloc);
-        places.push(EventCount::new())?;
-        for _client in 0..clients {
-            places.push(EventCount::new())?;
+        for _place in 0..clients.saturating_add(1) {
+            places.reserve(1)?;
+            places.push_reserved(EventCount::new());
         }
         Ok(Places { places })
     }

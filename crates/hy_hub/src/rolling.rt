@@ -22,10 +22,11 @@ impl Rolls {
     pub fn new(alloc: Global, servers: u8) -> Result<Rolls, AllocError> {
         let mut turns = Vec::new(alloc);
         for _server in 0..servers {
-            turns.push(Turn {
+            turns.reserve(1)?;
+            turns.push_reserved(Turn {
                 taken: AtomicBool::new(false),
                 ended: EventCount::new(),
-            })?;
+            });
         }
         Ok(Rolls { turns })
     }

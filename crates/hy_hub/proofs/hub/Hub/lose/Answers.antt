@@ -1,7 +1,6 @@
 use Rattle.std.proofs.Common.{ap, ◌∙◌}
 use Rattle.std.specs.Prelude.{Err}
-use Rattle.hy_hub.specs.Trace.{is_out}
-use Rattle.hy_hub.proofs.Flying.{flown_later, lands_home, carried_home}
+use Rattle.hy_hub.proofs.Flying.{flown_later, landed_idle}
 use Rattle.hy_hub.proofs.hub.Hub.lose.Goals as goal
 
 pub land_failed-requires : goal.land_failed-requires
@@ -13,7 +12,4 @@ pub returns-clause-kept : goal.returns-clause-kept
 returns-clause-kept g c =
     let h = c.hold-contents.ensures in
     let p = c.give.ensures in
-    let lands = c.land_failed.ensures.lands in
-    let home = ap is_out lands.1 ∙ lands_home (Err c.args.failed) c.hold-contents.result lands.0 lands.2 in
-    let carries = carried_home c.hold-contents.new.pass _ c.land_failed.new.self (h.kept.2 ∙ c.requires.pass.2) home p.carries in
-    ((p.kept.0 ∙ (h.kept.0 ∙ c.requires.pass.0), p.idle, carries), p.kept.1 ∙ h.kept.1)
+    landed_idle c.args.self.now (Err c.args.failed) c.args.pass.now c.hold-contents.new.pass c.give.new.pass _ _ c.land_failed.ensures.lands c.requires.pass h.kept p.kept p.idle p.carries
