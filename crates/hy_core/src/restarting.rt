@@ -49,7 +49,8 @@ fn shares(alloc: Global, log: &[Shared<Entry>]) -> Result<Vec<Shared<Entry>>, Al
 {
     let mut entries = Vec::with_capacity(alloc, log.len())?;
     for entry in log {
-        entries.push(entry.share()?)?;
+        entries.reserve(1)?;
+        entries.push_reserved(entry.share()?);
     }
     Ok(entries)
 }
@@ -65,7 +66,8 @@ fn shares_with(
 {
     let mut entries = shares(alloc, log)?;
     if is_kept(stop) {
-        entries.push(entry.share()?)?;
+        entries.reserve(1)?;
+        entries.push_reserved(entry.share()?);
     }
     Ok(entries)
 }
@@ -76,7 +78,8 @@ fn for_each_server(alloc: Global, roller: &Roller, servers: u8) -> Result<Vec<Ro
 {
     let mut rollers = Vec::new(alloc);
     for _server in 0..servers {
-        rollers.push(roller.share()?)?;
+        rollers.reserve(1)?;
+        rollers.push_reserved(roller.share()?);
     }
     Ok(rollers)
 }

@@ -36,7 +36,8 @@ fn shared(alloc: Global, entries: Vec<Entry>) -> Result<Vec<Shared<Entry>>, Allo
 {
     let mut all = Vec::new(alloc);
     for entry in entries {
-        all.push(Shared::new(alloc, entry)?)?;
+        all.reserve(1)?;
+        all.push_reserved(Shared::new(alloc, entry)?);
     }
     Ok(all)
 }
