@@ -25,9 +25,9 @@ use Rattle.hy_exec.specs.Running.{notes_write}
 use Rattle.hy_core.specs.declared.running.Running.{Running}
 use Rattle.hy_core.specs.declared.parts.Parts.{Parts}
 use Rattle.hy_core.specs.declared.parts.ClientState.{ClientState}
-use Rattle.hy_core.specs.declared.parts.Answered.{Answered}
-use Rattle.hy_core.specs.declared.parts.End.{End}
-use Rattle.hy_core.specs.declared.parts.End.TheVariants.{Reading, EntryAt, FullLog, Stopped}
+use Rattle.hy_core.specs.declared.parts.EndedProgram.{EndedProgram}
+use Rattle.hy_core.specs.declared.parts.ProgramEnd.{ProgramEnd}
+use Rattle.hy_core.specs.declared.parts.ProgramEnd.TheVariants.{Reading, EntryAt, FullLog, Stopped}
 use Rattle.hy_core.specs.Course.{Course, IsReached}
 
 -- what the core keeps
@@ -36,7 +36,7 @@ pub record Holding : Type 0 where
   pub pages : Pages
   pub rollers : List Roll
   pub client_states : List ClientState
-  pub told : List Answered
+  pub told : List EndedProgram
   pub armed : Option ArmedStop
 
 abbrev pub log_held : Parts → Holding
@@ -45,13 +45,13 @@ log_held p = record { log = p.log.items; pages = p.pages; rollers = p.rollers.it
 abbrev pub state_in_course : Holding → State
 state_in_course h = record { log = h.log; boards = map rolled_upto h.rollers; sessions = map (λ x. x.session) h.client_states; armed = h.armed }
 
-abbrev pub ending_in_course : End → Ending
+abbrev pub ending_in_course : ProgramEnd → Ending
 ending_in_course Reading = ByReading
 ending_in_course (EntryAt pos) = ByEntryAt pos
 ending_in_course FullLog = ByFullLog
 ending_in_course Stopped = ByStop
 
-abbrev pub ended_in_course : Answered → Ended
+abbrev pub ended_in_course : EndedProgram → Ended
 ended_in_course t = record { client = t.client; number = t.number; snap = t.snap; ending = ending_in_course t.end }
 
 abbrev pub done_of : Holding → List Ended
@@ -100,7 +100,7 @@ pub record IsServerBoard (script : Workload) (log : List EntryKind) (r : Roll) :
   pub stands : Stands (take (rolled_upto r) log) r
 
 -- a program that ended, with the answers that it was given
-pub record IsStepAnswered (script : Workload) (log : List EntryKind) (t : Answered) : Type 0 where
+pub record IsStepAnswered (script : Workload) (log : List EntryKind) (t : EndedProgram) : Type 0 where
   pub within : t.snap ≤ length log
   pub answers : t.answers ≡ answers_to script log (ended_in_course t)
 
@@ -161,17 +161,17 @@ abbrev pub LeavesEntry : Holding → ℕ → Type 0
 LeavesEntry h client = (x : ClientState) (run : Running) → nth h.client_states client ≡ Some x → x.running ≡ Some run → (e : EntryKind) × (run.entry ≡ Some e)
 
 -- what is told of a begun program that ends so
-abbrev pub told_in_course : ℕ → ℕ → ClientState → Running → End → Answered
+abbrev pub told_in_course : ℕ → ℕ → ClientState → Running → ProgramEnd → EndedProgram
 told_in_course client snap x run end = record { client = client; number = x.session.next; snap = snap; end = end; answers = run.answers }
 
 -- a begun client's program ends: it is told, and the client's client_state is at the next program
-abbrev pub finishing : Holding → ℕ → ℕ → ClientState → Running → End → Holding
+abbrev pub finishing : Holding → ℕ → ℕ → ClientState → Running → ProgramEnd → Holding
 finishing h client snap x run end = record h {
   client_states = change_nth (λ _. departed x.session.next x.session.last) h.client_states client;
   told = h.told ++ told_in_course client snap x run end ∷ [];
 }
 
-abbrev pub Finishes : Holding → Holding → ℕ → End → Type 0
+abbrev pub Finishes : Holding → Holding → ℕ → ProgramEnd → Type 0
 Finishes old new client end = (snap : ℕ) (x : ClientState) (run : Running) → BegunClientState old client snap x run → new ≡ finishing old client snap x run end
 
 -- the pages with a body more, so many times, where a stop may strike in the first append
@@ -273,11 +273,11 @@ abbrev pub abandoned_client_state : ClientState → ClientState
 abandoned_client_state x = if is_begun x.session.phase then departed x.session.next x.session.last else x
 
 -- what is told of it
-abbrev pub abandoned_told : ℕ → ClientState → List Answered
+abbrev pub abandoned_told : ℕ → ClientState → List EndedProgram
 abandoned_told client x = option_to_list (option_map (λ snap. record { client = client; number = x.session.next; snap = snap; end = Stopped; answers = [] }) (snap_of x.session.phase))
 
 -- of these clients, the first of which has this number
-abbrev pub all_abandoned : ℕ → List ClientState → List Answered
+abbrev pub all_abandoned : ℕ → List ClientState → List EndedProgram
 all_abandoned number [] = []
 all_abandoned number (x ∷ xs) = abandoned_told number x ++ all_abandoned (number + 1) xs
 

@@ -8,7 +8,7 @@ ghost use Rattle.hy_rules.specs.Moves.{is_kept};
 ghost use Rattle.hy_memlog.specs.Pages.{IsStop};
 ghost use Rattle.hy_core.specs.Parts.{IsHolding, AreRestarted, HasPlaces, ClientStateFits, HasRestarted, abandoned_client_state, abandoned_told, kept_by, struck, broken, log_held};
 
-use crate::parts::{Answered, ClientState, End, Parts, roller_of};
+use crate::parts::{ClientState, EndedProgram, Parts, ProgramEnd, roller_of};
 use hy_base::{Answers, ArmedStop, Entry, Phase, Pos, Script, Session, Shape, Shared};
 use hy_codec::encode;
 use hy_pipe::{Gate, Roller};
@@ -151,7 +151,7 @@ pub(crate) fn keep(log: &mut Vec<Shared<Entry>>, entry: Shared<Entry>, stop: Arm
 }
 
 // A begun client's program is lost, and the client goes on to the next.
-fn abandon(alloc: Global, client_state: &mut ClientState, told: &mut Vec<Answered>, client: u8)
+fn abandon(alloc: Global, client_state: &mut ClientState, told: &mut Vec<EndedProgram>, client: u8)
     requires place { vec_len told.old < vec_capacity told.old }
     requires fits { client_state.old.session.next + 1 < 2 ^ 32 }
     ensures client_state { client_state.new ≡ abandoned_client_state client_state.old }
@@ -169,11 +169,11 @@ fn abandon(alloc: Global, client_state: &mut ClientState, told: &mut Vec<Answere
         last,
     };
     client_state.running = None;
-    told.push_reserved(Answered {
+    told.push_reserved(EndedProgram {
         client,
         number: next,
         snap,
-        end: End::Stopped,
+        end: ProgramEnd::Stopped,
         answers: Answers::new(alloc),
     });
 }
