@@ -38,7 +38,7 @@ fn summary_of(alloc: Global, seed: u64, size: u32, core: &Core) -> Result<Vec<u8
     )
 }
 
-// The summary of a core that has run to its end, or why there is none.
+// The text for it, or why there is none.
 fn ended_text(alloc: Global, seed: u64, size: u32, core: &Core) -> Result<Vec<u8>, Status>
     requires { is_finished core.now.script core.now.state ≡ true }
     ensures text { IfOk result (λ text. text.items ≡ summary_at seed size core.now.script core.now.ended core.now.state) }
