@@ -38,15 +38,6 @@ fn summary_of(alloc: Global, seed: u64, size: u32, core: &Core) -> Result<Vec<u8
     )
 }
 
-// The text for it, or why there is none.
-fn ended_text(alloc: Global, seed: u64, size: u32, core: &Core) -> Result<Vec<u8>, Status>
-    requires { is_finished core.now.script core.now.state ≡ true }
-    ensures text { IfOk result (λ text. text.items ≡ summary_at seed size core.now.script core.now.ended core.now.state) }
-    ensures memory { IfErr result (λ status. status ≡ Status.Memory) }
-{
-    Ok(summary_of(alloc, seed, size, core)?)
-}
-
 /// The summary of the load that is generated from a seed and a size: its script and schedule are run as a simulation is.
 pub fn generated_text<R: Threads + Sync, G: Gate + Sync>(
     rt: &R,
@@ -64,11 +55,7 @@ pub fn generated_text<R: Threads + Sync, G: Gate + Sync>(
     schedule_is_enabled();
     let Load { script, events } = generate(alloc, seed, size)?;
     match run_to_end(rt, alloc, script, Items::from_vec(events), threads, gate) {
-        Ok(EndedRun { core, events: _ }) => {
-            let text = ended_text(alloc, seed, size, &core);
-            drop(core);
-            text
-        }
+        Ok(EndedRun { core, events: _ }) => Ok(summary_of(alloc, seed, size, &core)?),
         Err(SimulateError::Disabled { .. }) => unreachable!(),
         Err(SimulateError::Memory) => Err(Status::Memory),
     }

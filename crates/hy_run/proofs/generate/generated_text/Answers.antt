@@ -1,5 +1,4 @@
 use Rattle.std.proofs.Common.{List, subst}
-use Rattle.std.proofs.lemmas.Result.{IfOk-weaker}
 use Rattle.hy_base.specs.declared.workload.Event.{Event}
 use Rattle.hy_base.specs.Script.{Workload}
 use Rattle.hy_gen.specs.Load.{script_of}
@@ -15,6 +14,6 @@ returns-in-Ok-clause-text g c =
     let core = c.in-Ok.field-0.core in
     let script = script_of c.args.seed c.args.size in
     let ended : IsEndedRun load.script load.events.items events core = subst (λ (es : List Event). IsEndedRun load.script es events core) c.from_vec.ensures c.in-Ok.ensures.done in
-    IfOk-weaker c.ended_text-text.result _ _
-    (λ text is. load_run c.args.seed c.args.size events core text.items (subst (λ (es : List Event). IsEndedRun script es events core) made.1 (subst (λ (w : Workload). IsEndedRun w load.events.items events core) made.0 ended)) is)
-    c.ended_text-text.ensures.text
+    load_run c.args.seed c.args.size events core _
+    (subst (λ (es : List Event). IsEndedRun script es events core) made.1 (subst (λ (w : Workload). IsEndedRun w load.events.items events core) made.0 ended))
+    c.in_ok-summary_of-in-Ok.ensures
