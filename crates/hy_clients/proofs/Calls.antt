@@ -1,6 +1,6 @@
 -- What a call of the hub is to a client.
 use Rattle.std.proofs.Common.{◌≡◌, ℕ, ◌+◌, true, List, [], ◌∷◌, ◌++◌, length, replicate, Some, refl, ap, sym, ◌∙◌, subst, inl, inr, arith}
-use Rattle.std.specs.Prelude.{Option, Result, Ok, Err, IfOk, ◌==◌}
+use Rattle.std.specs.Prelude.{Option, Result, Ok, Err, IfOk, OnErr, ◌==◌}
 use Rattle.std.proofs.lemmas.Bool.Decides.{nat_tests}
 use Rattle.std.specs.declared.alloc.AllocError.{AllocError}
 use Rattle.hy_base.specs.declared.record.EntryKind.{EntryKind}
@@ -65,6 +65,10 @@ pub refused_is_quiet : (client all : ℕ) (old new : Known Occurrence) (refusal 
 refused_is_quiet client all old new Memory parts turn = goes_none client all old new (BeginDoes client (Err Memory)) turn parts turn.done
 refused_is_quiet client all old new (OutOfTurn who phase) parts turn = goes_none client all old new (BeginDoes client (Err (OutOfTurn who phase))) turn parts turn.done.0
 refused_is_quiet client all old new (Behind last board) parts turn = goes_none client all old new (BeginDoes client (Err (Behind last board))) turn parts turn.done.0
+
+pub begin_is_quiet : (client all : ℕ) (old new : Known Occurrence) (answer : Result Begun BeginRefusal) → new.parts ≡ old.parts → OneTurn all old new (BeginDoes client answer) → OnErr answer (GoesOn client old new [])
+begin_is_quiet client all old new (Ok begun) parts turn = tt
+begin_is_quiet client all old new (Err refusal) parts turn = refused_is_quiet client all old new refusal parts turn
 
 pub not_running : (client all : ℕ) (old new : Known Occurrence) (who : ℕ) (phase : Phase) → new.parts ≡ old.parts → OneTurn all old new (EndDoes client (Err (NotRunning who phase))) → GoesOn client old new []
 not_running client all old new who phase parts turn = goes_none client all old new (EndDoes client (Err (NotRunning who phase))) turn parts turn.done.0

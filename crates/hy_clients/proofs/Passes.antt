@@ -1,6 +1,6 @@
 -- Passes of a run, over a turn.
-use Rattle.std.proofs.Common.{◌≡◌, ℕ, suc, ◌+◌, ◌<◌, List, length, get_or, Some, refl, ap, sym, ◌∙◌, subst, arith}
-use Rattle.std.specs.Prelude.{Option, option_and_then, slice_get}
+use Rattle.std.proofs.Common.{◌≡◌, ℕ, suc, ◌+◌, ◌<◌, ◌≤◌, List, length, get_or, Some, None, refl, ap, sym, ◌∙◌, subst, arith}
+use Rattle.std.specs.Prelude.{Option, Result, Ok, Err, IfOk, IfSome, option_and_then, slice_get}
 use Rattle.std.proofs.lemmas.Option.{slice_get_read}
 use Rattle.std.specs.Option.{option_map_or}
 use Rattle.std.proofs.lemmas.List.{length-map}
@@ -16,8 +16,10 @@ use Rattle.hy_hist.specs.Passes.{Lock, Known}
 use Rattle.hy_rules.specs.Moves.{Setting, home_server}
 use Rattle.hy_rules.specs.Runs.{setting_of as script_setting, program_of}
 use Rattle.hy_hub.specs.declared.mark.Occurrence.{Occurrence}
+use Rattle.hy_rolling.specs.Rolling.{Roll, rolled_upto, roll_on}
+use Rattle.hy_hub.specs.declared.mark.Backlog.{Backlog}
 use Rattle.hy_hub.specs.Trace.{setting_in}
-use Rattle.hy_hub.specs.Calls.{OneTurn, OwnTurn, IsIdle, IsEntryOf, is_declared_client}
+use Rattle.hy_hub.specs.Calls.{OneTurn, OwnTurn, IsIdle, IsEntryOf, IsRollable, IsRollerOf, len_of, is_declared_client}
 use Rattle.hy_base.proofs.NthLemmas.{nth_map, nth_within, All-nth}
 use Rattle.hy_base.specs.Limits.{IsClientNumber, IsServerNumber}
 use Rattle.hy_clients.specs.Passing.{IsRunPass}
@@ -86,3 +88,12 @@ program_at script client own programs at program is same below here =
     let next : suc at ≡ at + 1 = omega arith in
     subst (λ n. program_of script client n ≡ Some program) next
     (ap (option_and_then (λ (c : Client). nth c.programs (suc at))) is ∙ (ap (λ (l : List Program). slice_get l at) (sym same) ∙ slice_get_read programs (length programs) at program refl below here))
+
+-- ---- a look
+
+-- what comes of a look that was rolled is a roller of the list, in the log
+pub rolls_in : {E : Type 0} (marks : List Occurrence) (look : Backlog) (answer : Result (Option Roll) E) → IsRollable marks look → IfOk answer (λ rolled. IfSome rolled (λ r. r ≡ roll_on look.roller look.entries))
+    → IfOk answer (λ rolled. IfSome rolled (λ r. (rolled_upto r ≤ len_of marks) × IsRollerOf marks (rolled_upto r) r))
+rolls_in marks look (Ok (Some r)) is e = subst (λ (x : Roll). (rolled_upto x ≤ len_of marks) × IsRollerOf marks (rolled_upto x) x) (sym e) (is.within, is.stands)
+rolls_in marks look (Ok None) is e = tt
+rolls_in marks look (Err e') is e = tt

@@ -11,7 +11,7 @@ use Rattle.hy_base.specs.declared.workload.Event.TheVariants.{Pad, Publish}
 use Rattle.hy_base.specs.Shape.{whole_groups}
 use Rattle.hy_base.specs.Lists.{nth, change_nth}
 use Rattle.hy_base.specs.Script.{Workload}
-use Rattle.hy_hist.specs.Passes.{Lock, Known}
+use Rattle.hy_hist.specs.Passes.{Lock, Known, made}
 use Rattle.hy_rules.specs.Moves.{Setting, State, after, board_of}
 use Rattle.hy_rolling.specs.Rolling.{Roll, rolled_upto, roll_on}
 use Rattle.hy_hub.specs.Origin.{Origin}
@@ -180,6 +180,27 @@ looks_at_end {all} old new server look turn alone is even none =
     let does = alone_does turn alone in
     let end = looked server look old.seen is even (refl, does.1, does.2) in
     omega (arith, end, none)
+
+-- a look by a pass that has all parts is one at all that it has seen
+pub looked_here : {all : ℕ} (old new : Known Occurrence) (server : ℕ) (look : Backlog) → OneTurn all old new (LookDoes server (Ok look)) → old.parts ≡ all → LookDoes server (Ok look) new.seen []
+looked_here {all} old new server look turn alone =
+    let does = alone_does turn alone in
+    subst (λ (l : List Occurrence). LookDoes server (Ok look) l []) (sym (looks_alone old new server look turn alone)) (refl, does.1, does.2)
+
+-- such a look as a turn that adds nothing
+pub looks_still : (all : ℕ) (pass : Known Occurrence) (server : ℕ) (look : Backlog) → IsHubHistory pass.seen → LookDoes server (Ok look) pass.seen [] → OneTurn all pass pass (LookDoes server (Ok look))
+looks_still all pass server look is does = record {
+  before = pass.seen;
+  added = [];
+  grown = ([], append-nil pass.seen);
+  alone = λ e. refl;
+  seen = sym (append-nil pass.seen);
+  told = is;
+  setting = λ some. refl;
+  few = omega arith;
+  makes = sym (append-nil (made pass));
+  done = does;
+}
 
 -- What a look and a publish come to, where the last group is whole.
 pub record Publishes (server : ℕ) (list later : List Occurrence) (publish : Result (Unit {0}) PublishRefusal) : Type 0 where

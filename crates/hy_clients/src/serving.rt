@@ -1,11 +1,11 @@
 //! A client's programs, one after another: each is begun, run on its snapshot, and ended.
-ghost use Rattle.std.specs.Prelude.{◌≡◌, ◌+◌, ◌≤◌, ℕ, [], length, Some, None, IfOk, OnOk, OnErr};
+ghost use Rattle.std.specs.Prelude.{◌≡◌, ◌+◌, ◌%◌, ◌≤◌, ℕ, [], length, Some, None, IfOk, IfSome, OnOk, OnErr};
 ghost use Rattle.hy_base.specs.Lists.{nth};
 ghost use Rattle.hy_base.specs.Shape.{IsWithin};
 ghost use Rattle.hy_base.specs.declared.workload.Client.{Client};
 ghost use Rattle.hy_base.specs.Limits.{IsThreadCount};
 ghost use Rattle.hy_rules.specs.Runs.{program_of};
-ghost use Rattle.hy_rolling.specs.Rolling.{rolled_upto};
+ghost use Rattle.hy_rolling.specs.Rolling.{rolled_upto, roll_on};
 ghost use Rattle.hy_hub.specs.Calls.{IsEntryOf, IsRollable, IsRollerOf, len_of};
 ghost use Rattle.hy_clients.specs.Services.{IsPassOf, IsServerOf, IsClientOf};
 ghost use Rattle.hy_clients.specs.Passing.{GoesOn, own_turns};
@@ -146,6 +146,48 @@ fn publish<D: Disk, R: Wait, G>(
     }
 }
 
+// The roller of a look, once it has rolled the entries. None where it was at the position already.
+fn roll_look<D: Disk, R: Threads + Sync, G: Gate + Sync>(
+    rt: &R,
+    service: &Service<'_, D, G>,
+    look: &Backlog,
+    last: Pos,
+) -> Result<Option<Roller>, Cut>
+    requires whole { length look.now.entries % look.now.roller.shape.group ≡ 0 }
+    requires room { rolled_upto look.now.roller + length look.now.entries ≤ look.now.roller.shape.cap }
+    requires threads { IsThreadCount service.now.threads }
+    ensures { IfOk result (λ rolled. IfSome rolled (λ r. r ≡ roll_on look.now.roller look.now.entries)) }
+{
+    if last <= look.roller.at() {
+        return Ok(None);
+    }
+    let entries = look.entries.as_slice();
+    let rolled = look
+        .roller
+        .roll(rt, service.alloc, entries, service.threads, service.gate)?;
+    Ok(Some(rolled))
+}
+
+// The roller of the server's board, once it has rolled the log up to the last whole group. None where the board was at the
+// position already.
+fn roll_board<D: Disk, R: Threads + Wait + Sync, G: Gate + Sync>(
+    rt: &R,
+    service: &Service<'_, D, G>,
+    pass: &mut Pass<Contents<D>>,
+    server: u8,
+    last: Pos,
+) -> Result<Option<Roller>, Cut>
+    requires pass { IsPassOf service.now pass.old }
+    requires server { IsServerOf service.now server }
+    requires threads { IsThreadCount service.now.threads }
+    ensures pass { IsPassOf service.now pass.new }
+    ensures goes { (client : ℕ) → GoesOn client pass.old pass.new [] }
+    ensures stands { IfOk result (λ rolled. IfSome rolled (λ r. (rolled_upto r ≤ len_of pass.new.seen) × IsRollerOf pass.new.seen (rolled_upto r) r)) }
+{
+    let look = look_to(rt, service, pass, server, last)?;
+    roll_look(rt, service, &look, last)
+}
+
 // A server publishes the log up to its last whole group, and so up to the client's last entry. It rolls nothing where another
 // task has published up to that entry meanwhile; so it doesn't where nothing is left to publish.
 fn roll_to<D: Disk, R: Threads + Wait + Sync, G: Gate + Sync>(
@@ -161,15 +203,10 @@ fn roll_to<D: Disk, R: Threads + Wait + Sync, G: Gate + Sync>(
     ensures pass { IsPassOf service.now pass.new }
     ensures goes { (client : ℕ) → GoesOn client pass.old pass.new [] }
 {
-    let look = look_to(rt, service, pass, server, last)?;
-    if last <= look.roller.at() {
-        return Ok(());
+    match roll_board(rt, service, pass, server, last)? {
+        Some(rolled) => publish(rt, service, pass, server, rolled),
+        None => Ok(()),
     }
-    let entries = look.entries.as_slice();
-    let rolled = look
-        .roller
-        .roll(rt, service.alloc, entries, service.threads, service.gate)?;
-    publish(rt, service, pass, server, rolled)
 }
 
 // The same, by one task of the server at a time. Where another does it, this one waits for its end.

@@ -1,12 +1,17 @@
-use Rattle.std.proofs.Common.{◌≡◌, ◌∙◌, refl, ap, subst, sym, None, List, map}
+use Rattle.std.proofs.Common.{◌≡◌, ◌∙◌, refl, ap, subst, sym, None, List, map, arith}
 use Rattle.std.specs.Prelude.{is_some}
 use Rattle.hy_base.specs.declared.workload.Event.{Event}
 use Rattle.hy_rolling.specs.Rolling.{Roll}
 use Rattle.hy_hub.specs.Calls.{events_in_list}
 use Rattle.hy_clients.specs.Passing.{opened_log, opened_start}
 use Rattle.hy_clients.specs.Finished.{IsFinished}
-use Rattle.hy_clients.proofs.Finishes.{finishes, runs_on}
+use Rattle.hy_clients.proofs.Finishes.{finishes, runs_on, some_roller}
 use Rattle.hy_clients.proofs.clients.finished.Goals as goal
+
+pub index-first-requires : goal.index-first-requires
+index-first-requires g c =
+    let some = some_roller c.requires.closed c.args.script.now c.requires.setting c.requires.ends c.shape.ensures.script in
+    omega (arith, some, c.args.closed.rollers.ok.0)
 
 pub returns-in-Ok-clause-run : goal.returns-in-Ok-clause-run
 returns-in-Ok-clause-run g c =

@@ -37,3 +37,21 @@ loop-at-preserved g c =
     let new = c.publish_end.new.pass in
     let even : len_of new.seen % c.args.service.now.script.now.shape.group ≡ 0 = ap (λ (l : _). length l % c.args.service.now.script.now.shape.group) e.log ∙ i.3 in
     (e.pass, e.parts ∙ i.1, prefix_trans c.args.pass.now.seen old.seen new.seen i.2 e.grown, even, one_more_ends old.seen new.seen c.loop-at.at e.log c.in_ok-publish_end.ensures.ends i.4)
+
+pub returns-in-Err-Memory-clause-pass : goal.returns-in-Err-Memory-clause-pass
+returns-in-Err-Memory-clause-pass g c = own_run_on c.args.service.now.hub.now c.args.service.now.script.now c.pad.ensures.kept.0 c.pad.ensures.turn.turn c.requires.pass
+
+pub returns-in-Err-Memory-clause-grown : goal.returns-in-Err-Memory-clause-grown
+returns-in-Err-Memory-clause-grown g c = own_grown c.pad.ensures.turn.turn
+
+pub returns-in-Err-Stopped-clause-pass : goal.returns-in-Err-Stopped-clause-pass
+returns-in-Err-Stopped-clause-pass g c = own_run_on c.args.service.now.hub.now c.args.service.now.script.now c.pad.ensures.kept.0 c.pad.ensures.turn.turn c.requires.pass
+
+pub returns-in-Err-Stopped-clause-grown : goal.returns-in-Err-Stopped-clause-grown
+returns-in-Err-Stopped-clause-grown g c = own_grown c.pad.ensures.turn.turn
+
+pub returns-in-Err-Device-clause-pass : goal.returns-in-Err-Device-clause-pass
+returns-in-Err-Device-clause-pass g c = own_run_on c.args.service.now.hub.now c.args.service.now.script.now c.pad.ensures.kept.0 c.pad.ensures.turn.turn c.requires.pass
+
+pub returns-in-Err-Device-clause-grown : goal.returns-in-Err-Device-clause-grown
+returns-in-Err-Device-clause-grown g c = own_grown c.pad.ensures.turn.turn

@@ -1,44 +1,35 @@
-use Rattle.std.proofs.Common.{◌≡◌, ◌∙◌, sym, ap, subst, length, arith}
-use Rattle.std.specs.Prelude.{Ok, Err}
-use Rattle.std.proofs.lemmas.Bool.Decides.{nat_tests}
-use Rattle.hy_rolling.specs.Rolling.{roll_on}
+use Rattle.std.proofs.Common.{◌≡◌, ◌%◌, ◌∙◌, ap, sym, subst}
+use Rattle.std.specs.Prelude.{OnOk}
+use mathlib.Core.List.{IsPrefix}
+use Rattle.hy_base.specs.Lists.{change_nth}
+use Rattle.hy_hub.specs.Calls.{len_of}
 use Rattle.hy_hub.specs.Trace.{state_after}
-use Rattle.hy_hub.specs.declared.mark.PublishRefusal.{PublishRefusal}
-use Rattle.hy_hub.specs.Laws.{IsPublished}
-use Rattle.hy_clients.proofs.Reaching.{even_at, looks_alone, looks_at_end, stays_there, publishes}
+use Rattle.hy_clients.proofs.Passes.{server_declared}
+use Rattle.hy_clients.proofs.Reaching.{looked_here, looks_alone}
 use Rattle.hy_clients.proofs.closing.publish_end.Goals as goal
 
-pub returns-then-is_empty-clause-ends : goal.returns-then-is_empty-clause-ends
-returns-then-is_empty-clause-ends g c =
-    let pass = c.args.pass.now in
-    let look = c.in_ok-look.look in
-    let turn = c.in_ok-look.ensures.turn in
-    let even = even_at c.args.service.now.hub.now c.args.service.now.script.now pass c.requires.pass c.requires.even in
-    let none : length look.entries ≡ 0 = ap length (sym c.as_slice-entries.ensures) ∙ grind (arith, nat_tests) in
-    let at = looks_at_end pass c.look.new.pass c.args.server look turn c.requires.all c.requires.pass.told even none in
-    let same = looks_alone pass c.look.new.pass c.args.server look turn c.requires.all in
-    ap (λ (l : _). (state_after l).boards) same ∙ stays_there pass.seen c.args.server _ at
+pub look-requires-clause-server : goal.look-requires-clause-server
+look-requires-clause-server g c = server_declared c.args.service.now.hub.now c.args.service.now.script.now c.args.pass.now c.requires.pass c.args.server c.requires.server
 
-pub returns-in-Ok-clause-log : goal.returns-in-Ok-clause-log
-returns-in-Ok-clause-log g c =
-    let pass = c.args.pass.now in
-    let look = c.in_ok-look.look in
-    let even = even_at c.args.service.now.hub.now c.args.service.now.script.now pass c.requires.pass c.requires.even in
-    let rolled : c.in_ok-rolled.rolled ≡ roll_on look.roller look.entries = c.in_ok-rolled.ensures ∙ ap (roll_on look.roller) c.as_slice-entries.ensures in
-    (publishes pass c.look.new.pass c.publish.new.pass c.args.server look c.in_ok-rolled.rolled (Ok tt) c.requires.pass.told even c.requires.all c.look.ensures.kept.1 c.in_ok-look.ensures.turn c.in_ok-look.ensures.rolls.whole rolled c.in-Ok.ensures.turn).log
+pub publish_look-requires-clause-look : goal.publish_look-requires-clause-look
+publish_look-requires-clause-look g c κs within = looked_here c.args.pass.now c.look.new.pass c.args.server c.in_ok-look.look c.in_ok-look.ensures.turn c.requires.all
 
-pub returns-in-Ok-clause-ends : goal.returns-in-Ok-clause-ends
-returns-in-Ok-clause-ends g c =
-    let pass = c.args.pass.now in
-    let look = c.in_ok-look.look in
-    let even = even_at c.args.service.now.hub.now c.args.service.now.script.now pass c.requires.pass c.requires.even in
-    let rolled : c.in_ok-rolled.rolled ≡ roll_on look.roller look.entries = c.in_ok-rolled.ensures ∙ ap (roll_on look.roller) c.as_slice-entries.ensures in
-    (publishes pass c.look.new.pass c.publish.new.pass c.args.server look c.in_ok-rolled.rolled (Ok tt) c.requires.pass.told even c.requires.all c.look.ensures.kept.1 c.in_ok-look.ensures.turn c.in_ok-look.ensures.rolls.whole rolled c.in-Ok.ensures.turn).boards tt
+pub publish_look-requires-clause-even : goal.publish_look-requires-clause-even
+publish_look-requires-clause-even g c κs within =
+    let same = looks_alone c.args.pass.now c.look.new.pass c.args.server c.in_ok-look.look c.in_ok-look.ensures.turn c.requires.all in
+    subst (λ (l : _). len_of l % c.args.service.now.script.now.shape.group ≡ 0) (sym same) c.requires.even
 
-pub returns-in-Err-Stale-clause-ends : goal.returns-in-Err-Stale-clause-ends
-returns-in-Err-Stale-clause-ends g c =
-    let pass = c.args.pass.now in
-    let look = c.in_ok-look.look in
-    let even = even_at c.args.service.now.hub.now c.args.service.now.script.now pass c.requires.pass c.requires.even in
-    let rolled : c.in_ok-rolled.rolled ≡ roll_on look.roller look.entries = c.in_ok-rolled.ensures ∙ ap (roll_on look.roller) c.as_slice-entries.ensures in
-    (publishes pass c.look.new.pass c.publish.new.pass c.args.server look c.in_ok-rolled.rolled (Err c.in-Err-Stale.field-0) c.requires.pass.told even c.requires.all c.look.ensures.kept.1 c.in_ok-look.ensures.turn c.in_ok-look.ensures.rolls.whole rolled c.in-Err-Stale.ensures.turn).boards (subst (λ (e : PublishRefusal). IsPublished (Err e)) (sym c.in-Err-Stale.field-0-is) tt)
+pub returns-clause-grown : goal.returns-clause-grown
+returns-clause-grown g c =
+    let same = looks_alone c.args.pass.now c.look.new.pass c.args.server c.in_ok-look.look c.in_ok-look.ensures.turn c.requires.all in
+    subst (λ (l : _). IsPrefix l c.publish_look.new.pass.seen) same c.publish_look.ensures.grown
+
+pub returns-clause-log : goal.returns-clause-log
+returns-clause-log g c =
+    let same = looks_alone c.args.pass.now c.look.new.pass c.args.server c.in_ok-look.look c.in_ok-look.ensures.turn c.requires.all in
+    c.publish_look.ensures.log ∙ ap (λ (l : _). (state_after l).log) same
+
+pub returns-clause-ends : goal.returns-clause-ends
+returns-clause-ends g c =
+    let same = looks_alone c.args.pass.now c.look.new.pass c.args.server c.in_ok-look.look c.in_ok-look.ensures.turn c.requires.all in
+    subst (λ (l : _). OnOk c.publish_look.result ((state_after c.publish_look.new.pass.seen).boards ≡ change_nth (λ (b : _). len_of l) (state_after l).boards c.args.server)) same c.publish_look.ensures.ends

@@ -7,8 +7,11 @@ use Rattle.hy_clients.specs.Serving.{AreLive, EndsBy}
 use Rattle.hy_clients.proofs.Calls.{same_answer}
 use Rattle.hy_clients.proofs.Ended.{own_end, program_ends, ends_same}
 use Rattle.hy_clients.proofs.Living.{live_same}
-use Rattle.hy_clients.proofs.Passes.{home_is}
+use Rattle.hy_clients.proofs.Passes.{client_within, home_is}
 use Rattle.hy_clients.proofs.serving.run_once.Goals as goal
+
+pub end_program-requires-clause-client : goal.end_program-requires-clause-client
+end_program-requires-clause-client g c = client_within c.args.service.now.script.now c.args.client c.args.server c.requires.client
 
 pub end_program-requires-clause-own : goal.end_program-requires-clause-own
 end_program-requires-clause-own g c =

@@ -18,3 +18,6 @@ gather-requires-clause-ended g c =
     let new = c.run_tasks.new.tasks in
     let count : length new ≡ length tasks.items = c.run_tasks.ensures.count ∙ ap length c.deref_mut.ensures.value in
     subst (All (IsEndedTask c.args.hub.now c.args.script.now)) (sym (whole_back tasks.len new tasks.items tasks.ok.0 count)) c.run_tasks.ensures.ended
+
+pub returns-clause-grown : goal.returns-clause-grown
+returns-clause-grown g c = subst (λ (l : _). IsPrefix l c.gather.new.pass.seen) c.spread.ensures.seen c.gather.ensures.grown
