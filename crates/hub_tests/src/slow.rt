@@ -3,7 +3,7 @@ ghost use Rattle.std.specs.Prelude.{◌≡◌, ◌≤◌, ◌<◌, ◌+◌, All,
 ghost use Rattle.hy_base.specs.Shape.{IsWithin};
 ghost use Rattle.hub_tests.specs.Trial.{IsTrial};
 
-use crate::hub::{SHAPE, begin, hub_on, memory, open_on, put_once};
+use crate::hub::{SHAPE, begins, hub_on, memory, open_on, put_once};
 use hy_base::Failed;
 use hy_disk::Disk;
 use hy_hist::Pass;
@@ -134,8 +134,8 @@ fn take_side<D: Disk, R: Wait>(rt: &R, alloc: Global, hub: &Hub<D>, side: &mut S
         side.done = put_once(rt, alloc, SHAPE, hub, &mut side.pass, client) == Some(Ok(1));
     } else {
         let syncs = reaches(&side.stage, SYNCING);
-        let begun = begin(rt, SHAPE, hub, &mut side.pass, client);
-        side.done = syncs && begun.is_ok();
+        let begun = begins(rt, SHAPE, hub, &mut side.pass, client);
+        side.done = syncs && begun;
         side.stage.store(BEGUN, Ordering::SeqCst);
     }
 }
@@ -189,5 +189,8 @@ fn a_program_begins_while_a_batch_is_written(rt: HostRuntime) -> Result<(), Fail
     take_sides(&rt, alloc, &hub, &mut sides);
     assert!(rt; sides.iter().all(|side| side.done));
     assert!(rt; stage.load(Ordering::SeqCst) == BEGUN);
+    drop(sides);
+    drop(pass);
+    drop(hub);
     Ok(())
 }
