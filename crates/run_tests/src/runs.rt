@@ -26,6 +26,7 @@ fn a_run_writes_its_report_and_its_log(rt: HostRuntime) -> Result<(), Fail> {
             wanted,
         )?;
         assert!(rt; log.bytes() == one_put().as_slice());
+        drop(log);
     }
     Ok(())
 }
@@ -48,6 +49,9 @@ fn a_look_at_the_log_reads_no_source(rt: HostRuntime) -> Result<(), Fail> {
     )?;
     assert!(rt; done.status == Status::Fine && done.acked == 1);
     assert_eq!(rt; sink.taken(), DUMP);
+    drop(source);
+    drop(sink);
+    drop(done);
     Ok(())
 }
 
@@ -61,6 +65,9 @@ fn a_sink_of_a_run_fails(rt: HostRuntime) -> Result<(), Fail> {
     assert!(rt; done.status == Status::Sink && done.acked == 1);
     assert_eq!(rt; sink.taken(), b"trace 3\nb ".as_slice());
     assert!(rt; done.log.bytes() == one_put().as_slice());
+    drop(source);
+    drop(sink);
+    drop(done);
     Ok(())
 }
 
@@ -101,5 +108,8 @@ fn two_clients_run_at_one_time(rt: HostRuntime) -> Result<(), Fail> {
     assert!(rt; done.status == Status::Fine && done.acked == 2);
     assert_eq!(rt; gate.started.load(Ordering::SeqCst), 2);
     assert_eq!(rt; gate.gave_up.load(Ordering::SeqCst), 0);
+    drop(source);
+    drop(sink);
+    drop(done);
     Ok(())
 }
