@@ -85,29 +85,31 @@ pub fn call<R: Threads + Wait + Sync, G: Gate + Sync>(
 }
 
 /// A call over a log, with a source and a sink that don't fail.
-pub fn ask<R: Threads + Wait + Sync>(
+pub fn ask<R: Threads + Wait + Sync, G: Gate + Sync>(
     rt: &R,
     alloc: Global,
     asked: &[&str],
     script: &[u8],
     log: MemDisk,
+    gate: &G,
 ) -> Result<(Done<MemDisk>, MemSink), Fail> {
     let mut source = MemSource::new(alloc, script, 7, &[])?;
     let mut sink = MemSink::new(alloc, 1000, 1000, &[])?;
-    let done = call(rt, alloc, asked, &mut source, &mut sink, log, &OpenGate);
+    let done = call(rt, alloc, asked, &mut source, &mut sink, log, gate);
     drop(source);
     Ok((done?, sink))
 }
 
 /// How such a call ends, and how many entries the log then has.
-pub fn ended<R: Threads + Wait + Sync>(
+pub fn ended<R: Threads + Wait + Sync, G: Gate + Sync>(
     rt: &R,
     alloc: Global,
     asked: &[&str],
     script: &[u8],
     log: MemDisk,
+    gate: &G,
 ) -> Result<(Status, Pos), Fail> {
-    let (done, sink) = ask(rt, alloc, asked, script, log)?;
+    let (done, sink) = ask(rt, alloc, asked, script, log, gate)?;
     drop(sink);
     let end = (done.status, done.acked);
     drop(done);
@@ -153,7 +155,7 @@ pub fn told<R: Threads + Wait + Sync>(
     log: MemDisk,
     wanted: Answer<'_>,
 ) -> Result<MemDisk, Fail> {
-    let (done, sink) = ask(rt, alloc, asked, script, log)?;
+    let (done, sink) = ask(rt, alloc, asked, script, log, &OpenGate)?;
     let is_told = is_answered(&done, &sink, wanted);
     drop(sink);
     ensured(log_of(done), is_told, what)

@@ -264,6 +264,21 @@ fn is_fine_or_failed(done: &Done<MemDisk>, sink: &MemSink, line: &[u8]) -> bool 
     }
 }
 
+// A call over two devices, with a source and a sink that don't fail.
+fn ask_on<R: Threads + Wait + Sync, D: Disk + Drop + Send>(
+    rt: &R,
+    alloc: Global,
+    asked: &[&str],
+    script: &[u8],
+    devices: (D, D),
+) -> Result<(Done<D>, MemSink), Fail> {
+    let mut source = MemSource::new(alloc, script, 1000, &[])?;
+    let mut sink = MemSink::new(alloc, 1000, 1000, &[])?;
+    let done = call_on(rt, alloc, asked, &mut source, &mut sink, devices, &OpenGate);
+    drop(source);
+    Ok((done?, sink))
+}
+
 // A run that saves its point, over these devices. It ends well, or with this line.
 fn saving<R: Threads + Wait + Sync>(
     rt: &R,
@@ -271,20 +286,7 @@ fn saving<R: Threads + Wait + Sync>(
     devices: Devices,
     line: &[u8],
 ) -> Result<Done<MemDisk>, Fail> {
-    let mut source = MemSource::new(alloc, SAVED, 1000, &[])?;
-    let mut sink = MemSink::new(alloc, 1000, 1000, &[])?;
-    let asked = ["run", "--save"];
-    let done = call_on(
-        rt,
-        alloc,
-        &asked,
-        &mut source,
-        &mut sink,
-        devices,
-        &OpenGate,
-    );
-    drop(source);
-    let done = done?;
+    let (done, sink) = ask_on(rt, alloc, &["run", "--save"], SAVED, devices)?;
     let is_told = is_fine_or_failed(&done, &sink, line);
     drop(sink);
     ensured(done, is_told, "a device failed")
@@ -311,12 +313,8 @@ fn looked<R: Threads + Wait + Sync>(
     log: &[u8],
     points: &[u8],
 ) -> Result<MemSink, Fail> {
-    let mut source = MemSource::new(alloc, GET, 1000, &[])?;
-    let mut sink = MemSink::new(alloc, 1000, 1000, &[])?;
     let devices = (roomy(alloc, log)?, roomy(alloc, points)?);
-    let done = call_on(rt, alloc, asked, &mut source, &mut sink, devices, &OpenGate);
-    drop(source);
-    let done = done?;
+    let (done, sink) = ask_on(rt, alloc, asked, GET, devices)?;
     let is_fine = ended_well(&done);
     drop(done);
     ensured(sink, is_fine, "what a crash left is refused")
@@ -357,7 +355,7 @@ fn leads_there<R: Threads + Wait + Sync>(
 
 // How many entries the log on a device has.
 fn recovered<R: Threads + Wait + Sync>(rt: &R, alloc: Global, log: MemDisk) -> Result<Pos, Fail> {
-    let (_, count) = ended(rt, alloc, &["recover"], b"", log)?;
+    let (_, count) = ended(rt, alloc, &["recover"], b"", log, &OpenGate)?;
     Ok(count)
 }
 
@@ -455,7 +453,7 @@ fn each_write_and_sync_fails(rt: HostRuntime) -> Result<(), Fail> {
         assert!(rt; k > 1 || log.bytes().is_empty());
         drop(log);
     }
-    let (status, _) = ended(&rt, alloc, RUN, ONE_PUT, failing(alloc, 12)?)?;
+    let (status, _) = ended(&rt, alloc, RUN, ONE_PUT, failing(alloc, 12)?, &OpenGate)?;
     assert_eq!(rt; status, Status::Fine);
     Ok(())
 }
@@ -496,7 +494,7 @@ fn crashed<R: Threads + Wait + Sync>(
     requires call { 1 ≤ k }
     requires pattern { pattern ≤ 2 }
 {
-    let (done, sink) = ask(rt, alloc, RUN, THREE_CLIENTS, failing(alloc, k)?)?;
+    let (done, sink) = ask(rt, alloc, RUN, THREE_CLIENTS, failing(alloc, k)?, &OpenGate)?;
     let acked = done.acked;
     let wanted = Answer {
         number: 5,
@@ -506,7 +504,8 @@ fn crashed<R: Threads + Wait + Sync>(
     let is_told = is_answered(&done, &sink, wanted);
     drop(sink);
     let log = ensured(log_of(done), is_told, "the device failed")?;
-    let (status, left) = ended(rt, alloc, &["check"], b"", log.stop(pattern))?;
+    let log = log.stop(pattern);
+    let (status, left) = ended(rt, alloc, &["check"], b"", log, &OpenGate)?;
     let is_fine = status == Status::Fine;
     ensured((acked, left), is_fine, "a log that can't be checked")
 }
