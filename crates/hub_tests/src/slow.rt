@@ -124,20 +124,35 @@ struct Side<D: Disk> {
     done: bool,
 }
 
+// Whether the first client appends, or the other begins while the device syncs.
+fn take_turn<D: Disk, R: Wait>(
+    rt: &R,
+    alloc: Global,
+    hub: &Hub<D>,
+    pass: &mut Pass<Contents<D>>,
+    stage: &Stage,
+    client: u8,
+) -> bool
+    requires client { IsWithin 1 2 client }
+    requires trial { IsTrial hub.now SHAPE pass.old }
+    ensures trial { IsTrial hub.now SHAPE pass.new }
+{
+    if client == 1 {
+        return put_once(rt, alloc, SHAPE, hub, pass, client) == Some(Ok(1));
+    }
+    let syncs = reaches(stage, SYNCING);
+    let begun = begins(rt, SHAPE, hub, pass, client);
+    stage.store(BEGUN, Ordering::SeqCst);
+    syncs && begun
+}
+
 fn take_side<D: Disk, R: Wait>(rt: &R, alloc: Global, hub: &Hub<D>, side: &mut Side<D>)
     requires client { IsWithin 1 2 side.old.client }
     requires trial { IsTrial hub.now SHAPE side.old.pass }
     ensures trial { IsTrial hub.now SHAPE side.new.pass }
 {
     let client = side.client;
-    if client == 1 {
-        side.done = put_once(rt, alloc, SHAPE, hub, &mut side.pass, client) == Some(Ok(1));
-    } else {
-        let syncs = reaches(&side.stage, SYNCING);
-        let begun = begins(rt, SHAPE, hub, &mut side.pass, client);
-        side.done = syncs && begun;
-        side.stage.store(BEGUN, Ordering::SeqCst);
-    }
+    side.done = take_turn(rt, alloc, hub, &mut side.pass, &side.stage, client);
 }
 
 fn take_sides<D: Disk + Send, R: Threads + Wait + Sync>(
