@@ -217,6 +217,7 @@ fn one_thread_makes_each_call(rt: HostRuntime) -> Result<(), Fail> {
     let desk = lock.close(first);
     assert!(rt; desk.tool == Some(7));
     assert!(rt; desk.marks.as_slice() == [Some(3), None, Some(5), None].as_slice());
+    drop(desk);
     Ok(())
 }
 

@@ -107,8 +107,8 @@ fn put(alloc: Global, client: u8, snap: Pos, byte: u8) -> Option<Entry>
     }))
 }
 
-/// The client's next program begins.
-pub fn begin<D: Disk, R: Wait>(
+// The client's next program begins.
+fn begin<D: Disk, R: Wait>(
     rt: &R,
     shape: Shape,
     hub: &Hub<D>,
@@ -122,6 +122,25 @@ pub fn begin<D: Disk, R: Wait>(
 {
     let _ = shape;
     hub.begin(rt, pass, client)
+}
+
+/// Whether the client's next program begins.
+pub fn begins<D: Disk, R: Wait>(
+    rt: &R,
+    shape: Shape,
+    hub: &Hub<D>,
+    pass: &mut Pass<Contents<D>>,
+    client: u8,
+) -> bool
+    requires trial { IsTrial hub.now shape pass.old }
+    requires client { IsWithin 1 2 client }
+    ensures trial { IsTrial hub.now shape pass.new }
+    ensures parts { pass.new.parts ≡ pass.old.parts }
+{
+    let begun = begin(rt, shape, hub, pass, client);
+    let is_begun = begun.is_ok();
+    drop(begun);
+    is_begun
 }
 
 fn append<D: Disk, R: Wait>(
@@ -159,8 +178,9 @@ fn catch_up<D: Disk, R: Threads + Wait + Sync>(
     let _ = shape;
     let look = hub.look(rt, pass, server).ok()?;
     let entries = look.entries.as_slice();
-    let rolled = look.roller.roll(rt, alloc, entries, 1, &OpenGate).ok()?;
-    Some(hub.publish(rt, pass, server, rolled))
+    let rolled = look.roller.roll(rt, alloc, entries, 1, &OpenGate).ok();
+    drop(look);
+    Some(hub.publish(rt, pass, server, rolled?))
 }
 
 /// Groups of one.
@@ -203,7 +223,9 @@ pub fn put_once<D: Disk, R: Wait>(
     ensures parts { pass.new.parts ≡ pass.old.parts }
 {
     let begun = begin(rt, shape, hub, pass, client).ok()?;
-    let entry = put(alloc, client, begun.snap, b'a')?;
+    let snap = begun.snap;
+    drop(begun);
+    let entry = put(alloc, client, snap, b'a')?;
     Some(append(rt, shape, hub, pass, client, entry))
 }
 
@@ -250,6 +272,16 @@ impl Bench {
         requires { IsWithin 1 2 client }
     {
         begin(rt, self.shape, &self.hub, &mut self.pass, client)
+    }
+
+    // The snapshot of the client's next program, and how many rows its server's roller has there.
+    fn begun<R: Wait>(&mut self, rt: &R, client: u8) -> Option<(Pos, u64)>
+        requires { IsWithin 1 2 client }
+    {
+        let begun = self.begin(rt, client).ok()?;
+        let found = (begun.snap, begun.roller.tree().row_count());
+        drop(begun);
+        Some(found)
     }
 
     // The client's next program begins, and puts a byte.
@@ -318,6 +350,11 @@ impl Bench {
     }
 }
 
+// The device of a hub that is closed.
+fn device_of<D: Disk + Drop>(closed: Closed<D>) -> D {
+    closed.log.close()
+}
+
 // The refusal of a call that comes when its client is elsewhere.
 fn running(snap: Pos) -> Phase {
     Phase::Begun { snap }
@@ -332,7 +369,7 @@ fn a_program_is_begun_and_appended(rt: HostRuntime) -> Result<(), Fail> {
     assert!(rt; bench.pad(&rt, 1) == Err(PadRefusal::Even));
     let closed = bench.close();
     assert!(rt; closed.entries.len() == 1 && closed.marks.len() == 5);
-    assert!(rt; closed.log.close().bytes().len() == 513);
+    assert!(rt; device_of(closed).bytes().len() == 513);
     Ok(())
 }
 
@@ -344,6 +381,7 @@ fn the_turn_to_roll_is_given_back(rt: HostRuntime) -> Result<(), Fail> {
         bench.hub.end_roll(1);
         bench.hub.end_roll(2);
     }
+    drop(bench);
     Ok(())
 }
 
@@ -355,6 +393,7 @@ fn an_entry_is_published(rt: HostRuntime) -> Result<(), Fail> {
     assert!(rt; bench.catch_up(&rt, 1) == Some(Ok(())));
     assert!(rt; bench.verdict(&rt, 1, 1) == Told::Known(Some(Verdict::Commit)));
     assert!(rt; bench.verdict(&rt, 1, 0) == Told::Past { from: 0 });
+    drop(bench);
     Ok(())
 }
 
@@ -371,6 +410,7 @@ fn a_board_is_published_once(rt: HostRuntime) -> Result<(), Fail> {
         Event::Publish { server: 1, upto: 1 },
     ];
     assert!(rt; bench.has_trace(&rt, &wanted)?);
+    drop(bench);
     Ok(())
 }
 
@@ -380,8 +420,7 @@ fn a_call_out_of_turn_is_refused(rt: HostRuntime) -> Result<(), Fail> {
     let client = 1;
     assert!(rt; bench.put(&rt, 1) == Some(Ok(1)));
     assert!(rt; bench.catch_up(&rt, 1) == Some(Ok(())));
-    let begun = bench.begin(&rt, 1).ok().expect(&rt, "begun");
-    assert!(rt; begun.snap == 1 && begun.roller.tree().row_count() == 1);
+    assert!(rt; bench.begun(&rt, 1) == Some((1, 1)));
     let phase = running(1);
     let twice = BeginRefusal::OutOfTurn { client, phase };
     assert!(rt; bench.begin(&rt, 1).err() == Some(twice));
@@ -391,6 +430,7 @@ fn a_call_out_of_turn_is_refused(rt: HostRuntime) -> Result<(), Fail> {
     let phase = Phase::Idle;
     let idle = EndRefusal::OutOfTurn { client, phase };
     assert!(rt; bench.end(&rt, 1) == Err(idle));
+    drop(bench);
     Ok(())
 }
 
@@ -400,9 +440,9 @@ fn a_pad_completes_a_group(rt: HostRuntime) -> Result<(), Fail> {
     assert!(rt; bench.put(&rt, 1) == Some(Ok(1)));
     assert!(rt; bench.pad(&rt, 2) == Ok(2));
     assert!(rt; bench.catch_up(&rt, 1) == Some(Ok(())));
-    let begun = bench.begin(&rt, 1).ok().expect(&rt, "begun");
-    assert!(rt; begun.snap == 2);
+    assert!(rt; bench.begun(&rt, 1) == Some((2, 1)));
     assert!(rt; bench.verdict(&rt, 1, 2) == Told::Known(None));
+    drop(bench);
     Ok(())
 }
 
@@ -418,6 +458,7 @@ fn a_full_log_refuses_the_program(rt: HostRuntime) -> Result<(), Fail> {
         Event::Refuse { client: 2 },
     ];
     assert!(rt; bench.has_trace(&rt, &wanted)?);
+    drop(bench);
     Ok(())
 }
 
@@ -436,7 +477,7 @@ fn an_append_that_fails_stops_the_hub(rt: HostRuntime) -> Result<(), Fail> {
     assert!(rt; bench.has_trace(&rt, &wanted)?);
     let closed = bench.close();
     assert!(rt; closed.log.stopped() == Some(1) && closed.entries.len() == 0);
-    assert!(rt; is_one_body(rt.alloc(), closed.log.close().stop(1)));
+    assert!(rt; is_one_body(rt.alloc(), device_of(closed).stop(1)));
     Ok(())
 }
 
@@ -456,6 +497,7 @@ fn a_pad_that_fails_leaves_no_filler(rt: HostRuntime) -> Result<(), Fail> {
     assert!(rt; bench.pad(&rt, 1) == Err(PadRefusal::Stopped { at: 2 }));
     let closed = bench.close();
     assert!(rt; closed.entries.len() == 1 && closed.log.len() == 1);
+    drop(closed);
     Ok(())
 }
 
@@ -466,6 +508,7 @@ fn fillers_are_written_at_once(rt: HostRuntime) -> Result<(), Fail> {
     assert!(rt; bench.pad(&rt, 1) == Ok(4));
     let closed = bench.close();
     assert!(rt; closed.entries.len() == 4 && closed.log.stopped().is_none());
+    drop(closed);
     Ok(())
 }
 

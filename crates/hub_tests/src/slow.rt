@@ -3,7 +3,7 @@ ghost use Rattle.std.specs.Prelude.{◌≡◌, ◌≤◌, ◌<◌, ◌+◌, All,
 ghost use Rattle.hy_base.specs.Shape.{IsWithin};
 ghost use Rattle.hub_tests.specs.Trial.{IsTrial};
 
-use crate::hub::{SHAPE, begin, hub_on, memory, open_on, put_once};
+use crate::hub::{SHAPE, begins, hub_on, memory, open_on, put_once};
 use hy_base::Failed;
 use hy_disk::Disk;
 use hy_hist::Pass;
@@ -124,20 +124,35 @@ struct Side<D: Disk> {
     done: bool,
 }
 
+// Whether the first client appends, or the other begins while the device syncs.
+fn take_turn<D: Disk, R: Wait>(
+    rt: &R,
+    alloc: Global,
+    hub: &Hub<D>,
+    pass: &mut Pass<Contents<D>>,
+    stage: &Stage,
+    client: u8,
+) -> bool
+    requires client { IsWithin 1 2 client }
+    requires trial { IsTrial hub.now SHAPE pass.old }
+    ensures trial { IsTrial hub.now SHAPE pass.new }
+{
+    if client == 1 {
+        return put_once(rt, alloc, SHAPE, hub, pass, client) == Some(Ok(1));
+    }
+    let syncs = reaches(stage, SYNCING);
+    let begun = begins(rt, SHAPE, hub, pass, client);
+    stage.store(BEGUN, Ordering::SeqCst);
+    syncs && begun
+}
+
 fn take_side<D: Disk, R: Wait>(rt: &R, alloc: Global, hub: &Hub<D>, side: &mut Side<D>)
     requires client { IsWithin 1 2 side.old.client }
     requires trial { IsTrial hub.now SHAPE side.old.pass }
     ensures trial { IsTrial hub.now SHAPE side.new.pass }
 {
     let client = side.client;
-    if client == 1 {
-        side.done = put_once(rt, alloc, SHAPE, hub, &mut side.pass, client) == Some(Ok(1));
-    } else {
-        let syncs = reaches(&side.stage, SYNCING);
-        let begun = begin(rt, SHAPE, hub, &mut side.pass, client);
-        side.done = syncs && begun.is_ok();
-        side.stage.store(BEGUN, Ordering::SeqCst);
-    }
+    side.done = take_turn(rt, alloc, hub, &mut side.pass, &side.stage, client);
 }
 
 fn take_sides<D: Disk + Send, R: Threads + Wait + Sync>(
@@ -189,5 +204,8 @@ fn a_program_begins_while_a_batch_is_written(rt: HostRuntime) -> Result<(), Fail
     take_sides(&rt, alloc, &hub, &mut sides);
     assert!(rt; sides.iter().all(|side| side.done));
     assert!(rt; stage.load(Ordering::SeqCst) == BEGUN);
+    drop(sides);
+    drop(pass);
+    drop(hub);
     Ok(())
 }

@@ -67,8 +67,10 @@ fn counted<L: Ledger>(
         steps: Steps::<L>::new(blank),
         told: 0,
     };
-    let melded = meld(alloc, cur, ready, marks, BASE, &mut looks)?;
-    Ok((melded, looks.told))
+    let melded = meld(alloc, cur, ready, marks, BASE, &mut looks);
+    let told = looks.told;
+    drop(looks);
+    Ok((melded?, told))
 }
 
 // Keys 0 to 999, written at positions 1 to 10.
@@ -99,7 +101,9 @@ fn marks(alloc: Global, points: &[Key]) -> Result<Marks, Fail>
         spans: Spans::new(alloc),
         writes: Writes::from_vec(vec![in alloc; write]?),
     };
-    Ok(Marks::of(alloc, &intention, 12)?)
+    let marks = Marks::of(alloc, &intention, 12);
+    drop(intention);
+    Ok(marks?)
 }
 
 // Of a meld: the key that clashes and its writer, or else who wrote keys 5 and 700 and how many rows there are; and the looks.
@@ -115,6 +119,7 @@ fn seen(melded: (Melded<Tree>, u64)) -> Seen {
         Melded::Clash(clash) => (Some(clash), (0, 0, 0), looks),
         Melded::Clean(tree) => {
             let rows = (writer(&tree, 5), writer(&tree, 700), tree.row_count());
+            drop(tree);
             (None, rows, looks)
         }
     }
@@ -139,12 +144,19 @@ fn melded(alloc: Global, earlier: &Tree, marks: &Marks, late: bool) -> Result<Se
 {
     let ready = apply(alloc, earlier, marks)?;
     let cur = current(alloc, earlier, late)?;
-    Ok(seen(counted::<Brand>(alloc, &cur, &ready, marks, Blank::new(1))?))
+    let found = counted::<Brand>(alloc, &cur, &ready, marks, Blank::new(1));
+    drop(cur);
+    drop(ready);
+    Ok(seen(found?))
 }
 
 fn looked(alloc: Global, points: &[Key], late: bool) -> Result<Seen, Fail> {
     let earlier = thousand(alloc)?;
-    melded(alloc, &earlier, &marks(alloc, points)?, late)
+    let marks = marks(alloc, points)?;
+    let found = melded(alloc, &earlier, &marks, late);
+    drop(marks);
+    drop(earlier);
+    found
 }
 
 #[test]

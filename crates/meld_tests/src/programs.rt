@@ -24,9 +24,13 @@ fn with(alloc: Global, tree: &Tree, key: Key, writer: Pos, text: &str) -> Result
 
 // Key 3 with "c", key 7 with a text, and key 9 deleted.
 fn tree(alloc: Global, seventh: &str) -> Result<Tree, Fail> {
-    let tree = with(alloc, &Tree::empty(), 3, 1, "c")?;
-    let tree = with(alloc, &tree, 7, 2, seventh)?;
-    Ok(tree.put(alloc, 9, 3, None)?)
+    let one = with(alloc, &Tree::empty(), 3, 1, "c")?;
+    let two = with(alloc, &one, 7, 2, seventh);
+    drop(one);
+    let two = two?;
+    let three = two.put(alloc, 9, 3, None);
+    drop(two);
+    Ok(three?)
 }
 
 fn number(word: Option<&str>) -> u64 {
@@ -83,7 +87,8 @@ fn program(commands: Vec<Command>) -> Option<Program>
 fn commands(alloc: Global, texts: &str) -> Result<Vec<Command>, Fail> {
     let mut commands = Vec::new(alloc);
     for text in texts.split(',') {
-        commands.push(command(alloc, text)?)?;
+        commands.reserve(1)?;
+        commands.push_reserved(command(alloc, text)?);
     }
     Ok(commands)
 }
@@ -92,7 +97,9 @@ fn run(alloc: Global, seventh: &str, texts: &str) -> Result<Executed, Fail> {
     let Some(program) = program(commands(alloc, texts)?) else {
         return Err(Fail::new("the program is refused"));
     };
-    Ok(run_program(alloc, &program, tree(alloc, seventh)?, 5, 1, 2)?)
+    let executed = run_program(alloc, &program, tree(alloc, seventh)?, 5, 1, 2);
+    drop(program);
+    Ok(executed?)
 }
 
 fn text_of(value: &Value) -> &str {
@@ -199,7 +206,10 @@ fn played(alloc: Global, row: &str) -> Result<String, Fail> {
     let mut parts = row.split('|');
     let seventh = parts.next().unwrap_or("");
     let texts = parts.next().unwrap_or("");
-    let found = outcome(alloc, &run(alloc, seventh, texts)?)?;
+    let executed = run(alloc, seventh, texts)?;
+    let found = outcome(alloc, &executed);
+    drop(executed);
+    let found = found?;
     Ok(format!(in alloc; "{seventh}|{texts}|{}", found.as_str())?)
 }
 

@@ -60,7 +60,8 @@ fn entry(alloc: Global, item: Item) -> Result<Shared<Entry>, Fail> {
 fn log(alloc: Global, items: &[Item]) -> Result<Vec<Shared<Entry>>, Fail> {
     let mut entries = Vec::new(alloc);
     for &item in items {
-        entries.push(entry(alloc, item)?)?;
+        entries.reserve(1)?;
+        entries.push_reserved(entry(alloc, item)?);
     }
     Ok(entries)
 }
@@ -114,7 +115,25 @@ fn rolled<R: Threads + Sync, G: Gate + Sync>(
     ensures { IfOk result (λ r. r.shape ≡ shape) }
 {
     let roller = Roller::new(alloc, shape)?;
-    further(rt, alloc, shape, &roller, entries, threads, gate)
+    let end = further(rt, alloc, shape, &roller, entries, threads, gate);
+    drop(roller);
+    end
+}
+
+// A log of these items, rolled from the first one on by two threads.
+fn rolled_log<R: Threads + Sync, G: Gate + Sync>(
+    rt: &R,
+    alloc: Global,
+    shape: Shape,
+    items: &[Item],
+    gate: &G,
+) -> Result<Roller, Fail>
+    requires { IsGoodShape shape }
+{
+    let entries = log(alloc, items)?;
+    let roller = rolled(rt, alloc, shape, &entries, 2, gate);
+    drop(entries);
+    roller
 }
 
 // Whether these are the verdicts from position 1 on.
@@ -164,8 +183,10 @@ fn decides<R: Threads + Sync>(
     rows: &[(Key, Pos, bool)],
 ) -> Result<bool, Fail> {
     let shape = shape(group, window, 8)?;
-    let roller = rolled(rt, alloc, shape, &log(alloc, items)?, 2, &OpenGate)?;
-    Ok(tells(&roller, verdicts) && has(roller.tree(), rows) && bounds(&roller, 0))
+    let roller = rolled_log(rt, alloc, shape, items, &OpenGate)?;
+    let decides = tells(&roller, verdicts) && has(roller.tree(), rows) && bounds(&roller, 0);
+    drop(roller);
+    Ok(decides)
 }
 
 // Whether it tells verdicts past this position alone, and up to the one that it has rolled to.
@@ -199,7 +220,8 @@ fn item(number: u32) -> Item
 fn mixed(alloc: Global) -> Result<Vec<Shared<Entry>>, Fail> {
     let mut entries = Vec::new(alloc);
     for number in 0..24 {
-        entries.push(entry(alloc, item(number))?)?;
+        entries.reserve(1)?;
+        entries.push_reserved(entry(alloc, item(number))?);
     }
     Ok(entries)
 }
@@ -256,7 +278,9 @@ fn in_parts<R: Threads + Sync, G: Gate + Sync>(
     }
     let (front, back) = entries.split_at(place);
     let part = rolled(rt, alloc, shape, front, threads, gate)?;
-    further(rt, alloc, shape, &part, back, threads, gate)
+    let end = further(rt, alloc, shape, &part, back, threads, gate);
+    drop(part);
+    end
 }
 
 // Keeps nothing, but might: so each run of groups is a task, however short it is.
@@ -283,7 +307,12 @@ fn is_as_whole<R: Threads + Sync>(
     requires threads { IsThreadCount threads }
 {
     let both = in_parts(rt, alloc, shape, entries, place, threads, &Passing)?;
-    Ok(are_same(whole, &both.share()?, 0))
+    let shared = both.share();
+    drop(both);
+    let shared = shared?;
+    let same = are_same(whole, &shared, 0);
+    drop(shared);
+    Ok(same)
 }
 
 // Whether a cut of the log rolls as the whole, by any number of threads.
@@ -327,7 +356,10 @@ fn is_mixed_cut_well<R: Threads + Sync>(rt: &R, alloc: Global) -> Result<bool, F
     let shape = shape(2, 2, 24)?;
     let entries = mixed(alloc)?;
     let whole = rolled(rt, alloc, shape, &entries, 1, &OpenGate)?;
-    are_cut_well(rt, alloc, shape, &entries, &whole)
+    let well = are_cut_well(rt, alloc, shape, &entries, &whole);
+    drop(whole);
+    drop(entries);
+    well
 }
 
 #[test]
@@ -343,8 +375,13 @@ fn mixed_upto<R: Threads + Sync, G: Gate + Sync>(
     gate: &G,
 ) -> Result<Pos, Fail> {
     let shape = shape(2, 2, 24)?;
-    let roller = in_parts(rt, alloc, shape, &mixed(alloc)?, 6, 16, gate)?;
-    Ok(roller.at())
+    let entries = mixed(alloc)?;
+    let roller = in_parts(rt, alloc, shape, &entries, 6, 16, gate);
+    drop(entries);
+    let roller = roller?;
+    let at = roller.at();
+    drop(roller);
+    Ok(at)
 }
 
 #[test]
@@ -390,8 +427,10 @@ fn second_clashes<R: Threads + Sync, G: Gate + Sync>(
     gate: &G,
 ) -> Result<bool, Fail> {
     let shape = shape(1, 2, 8)?;
-    let roller = rolled(rt, alloc, shape, &log(alloc, &[SUM, SUM])?, 2, gate)?;
-    Ok(tells(&roller, &[COMMIT, last(7, 1)]))
+    let roller = rolled_log(rt, alloc, shape, &[SUM, SUM], gate)?;
+    let clashes = tells(&roller, &[COMMIT, last(7, 1)]);
+    drop(roller);
+    Ok(clashes)
 }
 
 #[test]
@@ -447,7 +486,9 @@ fn resumed(
         return Err(Fail::new("the log is shorter"));
     }
     let (_, past) = entries[..end].split_at(start);
-    Ok(Roller::resume(alloc, shape, at, rows, past, &flags)?)
+    let again = Roller::resume(alloc, shape, at, rows, past, &flags);
+    drop(flags);
+    Ok(again?)
 }
 
 // A roller that is resumed behind these entries.
@@ -461,7 +502,9 @@ fn resumed_behind<R: Threads + Sync>(
     ensures { IfOk result (λ r. r.shape ≡ shape) }
 {
     let part = rolled(rt, alloc, shape, entries, 2, &OpenGate)?;
-    resumed(alloc, shape, entries, &part)
+    let again = resumed(alloc, shape, entries, &part);
+    drop(part);
+    again
 }
 
 // Whether a roller that was resumed tells nothing up to there, nor does this one, which is the same as the whole past that.
@@ -483,7 +526,9 @@ fn goes_on<R: Threads + Sync>(
     requires same { again.now.shape ≡ shape }
 {
     let end = further(rt, alloc, shape, again, rest, 2, &OpenGate)?;
-    Ok(is_end_of(&end, whole, again))
+    let is_end = is_end_of(&end, whole, again);
+    drop(end);
+    Ok(is_end)
 }
 
 fn goes_on_from<R: Threads + Sync>(
@@ -501,7 +546,9 @@ fn goes_on_from<R: Threads + Sync>(
     }
     let (front, rest) = entries.split_at(place);
     let again = resumed_behind(rt, alloc, shape, front)?;
-    goes_on(rt, alloc, shape, rest, whole, &again)
+    let goes = goes_on(rt, alloc, shape, rest, whole, &again);
+    drop(again);
+    goes
 }
 
 // The first place at which a resumed roller doesn't go on as the whole.
@@ -526,7 +573,10 @@ fn first_place_astray<R: Threads + Sync>(rt: &R, alloc: Global) -> Result<Option
     let shape = shape(2, 2, 24)?;
     let entries = mixed(alloc)?;
     let whole = rolled(rt, alloc, shape, &entries, 2, &OpenGate)?;
-    first_astray(rt, alloc, shape, &entries, &whole)
+    let astray = first_astray(rt, alloc, shape, &entries, &whole);
+    drop(whole);
+    drop(entries);
+    astray
 }
 
 #[test]

@@ -18,12 +18,23 @@ fn value(alloc: Global, byte: u8) -> Result<Option<Value>, Fail> {
     }
 }
 
+// The tree with a put of this byte, or a deletion.
+fn with(alloc: Global, tree: Tree, key: Key, writer: Pos, byte: Option<u8>) -> Result<Tree, Fail> {
+    let value = match byte {
+        None => None,
+        Some(byte) => value(alloc, byte)?,
+    };
+    let more = tree.put(alloc, key, writer, value);
+    drop(tree);
+    Ok(more?)
+}
+
 // The rows at keys 0, 5 and 2^64 - 1. That of 5 is of a deletion.
 fn three_rows(alloc: Global) -> Result<Tree, Fail> {
-    let tree = Tree::empty().put(alloc, LAST, 2, value(alloc, b'z')?)?;
-    let tree = tree.put(alloc, 5, 3, value(alloc, b'e')?)?;
-    let tree = tree.put(alloc, 0, 1, value(alloc, b'a')?)?;
-    Ok(tree.put(alloc, 5, 4, None)?)
+    let tree = with(alloc, Tree::empty(), LAST, 2, Some(b'z'))?;
+    let tree = with(alloc, tree, 5, 3, Some(b'e'))?;
+    let tree = with(alloc, tree, 0, 1, Some(b'a'))?;
+    with(alloc, tree, 5, 4, None)
 }
 
 fn told(row: Option<&Row>) -> Option<(Key, Pos, Option<&[u8]>)> {
@@ -47,6 +58,7 @@ fn keys_are_found_at_the_ends_of_their_range(rt: HostRuntime) -> Result<(), Fail
     for key in [1, 4, 6, 1 << 63, LAST - 1] {
         assert_eq!(rt; told(tree.get(key)), None, "at {key}");
     }
+    drop(tree);
     Ok(())
 }
 
@@ -62,6 +74,8 @@ fn the_next_row_is_a_tombstone_too(rt: HostRuntime) -> Result<(), Fail> {
     assert_eq!(rt; told(one.first_from(7)), Some((7, 1, None)));
     assert_eq!(rt; told(one.first_from(8)), None);
     assert_eq!(rt; told(Tree::empty().first_from(0)), None);
+    drop(one);
+    drop(tree);
     Ok(())
 }
 
@@ -93,7 +107,10 @@ fn look<L: Ledger>(alloc: Global, tree: &Tree, blank: Blank) -> Result<Option<(u
 {
     let mut steps = Steps::<L>::new(blank);
     let tree = remade(alloc, tree, &mut steps)?;
-    Ok(root(&tree, &mut steps))
+    let found = root(&tree, &mut steps);
+    drop(tree);
+    drop(steps);
+    Ok(found)
 }
 
 // That threads may share it.

@@ -8,7 +8,7 @@ use hy_disk::{Disk, Tuned};
 use hy_io::{MemSink, MemSource};
 use hy_mem::MemDisk;
 use hy_pipe::{Gate, OpenGate};
-use hy_run::{Done, hyder_call};
+use hy_run::{Done, Status, hyder_call};
 use std::alloc::{AllocError, Global};
 use std::sync::Wait;
 use std::test::Fail;
@@ -42,6 +42,15 @@ fn words_of(alloc: Global, asked: &[&str]) -> Result<Words, Fail> {
     Ok(words)
 }
 
+/// A value, where what is said of it holds. The error says why not.
+pub fn ensured<T: Drop>(value: T, holds: bool, why: &'static str) -> Result<T, Fail> {
+    if holds {
+        Ok(value)
+    } else {
+        Err(Fail::new(why))
+    }
+}
+
 /// A call over two devices, with this source, sink and gate.
 pub fn call_on<R: Threads + Wait + Sync, D: Disk + Drop + Send, G: Gate + Sync>(
     rt: &R,
@@ -54,7 +63,9 @@ pub fn call_on<R: Threads + Wait + Sync, D: Disk + Drop + Send, G: Gate + Sync>(
 ) -> Result<Done<D>, Fail> {
     let words = words_of(alloc, asked)?;
     let (log, points) = devices;
-    Ok(hyder_call(rt, alloc, &words, source, sink, log, points, gate))
+    let done = hyder_call(rt, alloc, &words, source, sink, log, points, gate);
+    drop(words);
+    Ok(done)
 }
 
 /// A call over a log in memory, with this source, sink and gate, which leaves the other device alone.
@@ -69,24 +80,45 @@ pub fn call<R: Threads + Wait + Sync, G: Gate + Sync>(
 ) -> Result<Done<MemDisk>, Fail> {
     let points = MemDisk::new(alloc, b"points", &[1])?;
     let done = call_on(rt, alloc, asked, source, sink, (log, points), gate)?;
-    if done.points.faults() != 0 {
-        return Err("the other device was used")?;
-    }
-    Ok(done)
+    let is_unused = done.points.faults() == 0;
+    ensured(done, is_unused, "the other device was used")
 }
 
 /// A call over a log, with a source and a sink that don't fail.
-pub fn ask<R: Threads + Wait + Sync>(
+pub fn ask<R: Threads + Wait + Sync, G: Gate + Sync>(
     rt: &R,
     alloc: Global,
     asked: &[&str],
     script: &[u8],
     log: MemDisk,
+    gate: &G,
 ) -> Result<(Done<MemDisk>, MemSink), Fail> {
     let mut source = MemSource::new(alloc, script, 7, &[])?;
     let mut sink = MemSink::new(alloc, 1000, 1000, &[])?;
-    let done = call(rt, alloc, asked, &mut source, &mut sink, log, &OpenGate)?;
-    Ok((done, sink))
+    let done = call(rt, alloc, asked, &mut source, &mut sink, log, gate);
+    drop(source);
+    Ok((done?, sink))
+}
+
+/// How such a call ends, and how many entries the log then has.
+pub fn ended<R: Threads + Wait + Sync, G: Gate + Sync>(
+    rt: &R,
+    alloc: Global,
+    asked: &[&str],
+    script: &[u8],
+    log: MemDisk,
+    gate: &G,
+) -> Result<(Status, Pos), Fail> {
+    let (done, sink) = ask(rt, alloc, asked, script, log, gate)?;
+    drop(sink);
+    let end = (done.status, done.acked);
+    drop(done);
+    Ok(end)
+}
+
+/// The device of the log.
+pub fn log_of<D: Drop>(done: Done<D>) -> D {
+    done.log
 }
 
 /// What a call is to answer and to write: its exit status, and the rest.
@@ -123,9 +155,8 @@ pub fn told<R: Threads + Wait + Sync>(
     log: MemDisk,
     wanted: Answer<'_>,
 ) -> Result<MemDisk, Fail> {
-    let (done, sink) = ask(rt, alloc, asked, script, log)?;
-    if !is_answered(&done, &sink, wanted) {
-        return Err(what)?;
-    }
-    Ok(done.log)
+    let (done, sink) = ask(rt, alloc, asked, script, log, &OpenGate)?;
+    let is_told = is_answered(&done, &sink, wanted);
+    drop(sink);
+    ensured(log_of(done), is_told, what)
 }

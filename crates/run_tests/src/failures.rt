@@ -1,7 +1,9 @@
 //! Calls in which a source, a sink or a device fails at each of its calls in turn, and what a crash then leaves.
 ghost use Rattle.std.specs.Prelude.{◌≤◌};
 
-use crate::calls::{Answer, RUN, ask, call, call_on, empty, fine, is_answered, roomy, told};
+use crate::calls::{
+    Answer, RUN, ask, call, call_on, empty, ended, ensured, fine, is_answered, log_of, roomy, told,
+};
 use crate::logs::{DUMP, NO_CLIENT, NONE, ONE_PUT, one_put};
 use hy_base::Pos;
 use hy_disk::{Disk, Tuned};
@@ -42,10 +44,8 @@ fn simulated_on<R: Threads + Wait + Sync>(
     let log = MemDisk::new(alloc, b"untouched", &[1])?;
     let points = MemDisk::new(alloc, b"points", &[1])?;
     let done = call_on(rt, alloc, &["sim"], source, sink, (log, points), &OpenGate)?;
-    if is_touched(&done) {
-        return Err("a device was used")?;
-    }
-    Ok(done)
+    let is_untouched = !is_touched(&done);
+    ensured(done, is_untouched, "a device was used")
 }
 
 // Whether a device was called that fails at its first call.
@@ -72,8 +72,9 @@ fn two_sums<R: Threads + Wait + Sync>(
 ) -> Result<(Done<MemDisk>, MemSink), Fail> {
     let mut source = MemSource::new(alloc, TWO_SUMS, pieces.0.max(1), source_fails)?;
     let mut sink = MemSink::new(alloc, 1000, pieces.1.max(1), sink_fails)?;
-    let done = simulated_on(rt, alloc, &mut source, &mut sink)?;
-    Ok((done, sink))
+    let done = simulated_on(rt, alloc, &mut source, &mut sink);
+    drop(source);
+    Ok((done?, sink))
 }
 
 // Whether it ended as if nothing failed. None where it ended neither so nor with this refusal.
@@ -95,7 +96,10 @@ fn source_fails<R: Threads + Wait + Sync>(
     number: u64,
 ) -> Result<Option<bool>, Fail> {
     let (done, sink) = two_sums(rt, alloc, (most, 1000), &[number], &[])?;
-    Ok(outcome(&done, &sink, refused(3, b"hyder: source\n")))
+    let ended = outcome(&done, &sink, refused(3, b"hyder: source\n"));
+    drop(done);
+    drop(sink);
+    Ok(ended)
 }
 
 // What a sink has taken in pieces of this length before its call of this number.
@@ -112,7 +116,10 @@ fn sink_fails<R: Threads + Wait + Sync>(
     number: u64,
 ) -> Result<Option<bool>, Fail> {
     let (done, sink) = two_sums(rt, alloc, (7, most), &[], &[number])?;
-    Ok(outcome(&done, &sink, refused(4, before(most, number))))
+    let ended = outcome(&done, &sink, refused(4, before(most, number)));
+    drop(done);
+    drop(sink);
+    Ok(ended)
 }
 
 // How many calls of a source, or of a sink, fail in turn until one isn't reached, in pieces of this length. None where a run
@@ -160,20 +167,47 @@ fn a_sink_of_a_refusal_fails(rt: HostRuntime) -> Result<(), Fail> {
     let mut sink = MemSink::new(alloc, 1000, 10, &[2])?;
     let done = simulated_on(&rt, alloc, &mut source, &mut sink)?;
     assert!(rt; is_answered(&done, &sink, refused(2, b"hyder: scr")));
+    drop(source);
+    drop(sink);
+    drop(done);
     Ok(())
 }
 
-// What `check` answers over the log of one put where one call of the device fails.
+// The log of one put, on a device whose call of this number fails.
+fn one_put_failing(alloc: Global, number: u64) -> Result<MemDisk, Fail> {
+    let mut log = MemDisk::new(alloc, &one_put(), &[number])?;
+    log.room(258, 7)?;
+    Ok(log)
+}
+
+// What `check` answers over it.
 fn checked<R: Threads + Wait + Sync>(
     rt: &R,
     alloc: Global,
     sink: &mut MemSink,
     number: u64,
 ) -> Result<Done<MemDisk>, Fail> {
+    let log = one_put_failing(alloc, number)?;
     let mut source = MemSource::new(alloc, b"", 7, &[1])?;
-    let mut log = MemDisk::new(alloc, &one_put(), &[number])?;
-    log.room(258, 7)?;
-    call(rt, alloc, &["check"], &mut source, sink, log, &OpenGate)
+    let done = call(rt, alloc, &["check"], &mut source, sink, log, &OpenGate);
+    drop(source);
+    done
+}
+
+// Its exit status, and whether it writes that the log's device failed.
+fn check_status<R: Threads + Wait + Sync>(
+    rt: &R,
+    alloc: Global,
+    number: u64,
+) -> Result<(u8, bool), Fail> {
+    let mut sink = MemSink::new(alloc, 1000, 1000, &[])?;
+    let done = checked(rt, alloc, &mut sink, number);
+    let is_log = sink.taken() == b"hyder: device log\n".as_slice();
+    drop(sink);
+    let done = done?;
+    let status = done.status.number();
+    drop(done);
+    Ok((status, is_log))
 }
 
 #[test]
@@ -181,13 +215,11 @@ fn a_device_fails_under_check(rt: HostRuntime) -> Result<(), Fail> {
     let alloc = rt.alloc();
     let mut last = 0;
     for number in 1..20 {
-        let mut sink = MemSink::new(alloc, 1000, 1000, &[])?;
-        let done = checked(&rt, alloc, &mut sink, number)?;
-        if done.status == Status::Fine {
+        let (status, is_log) = check_status(&rt, alloc, number)?;
+        if status == 0 {
             break;
         }
-        assert!(rt; done.status.number() == 5);
-        assert_eq!(rt; sink.taken(), b"hyder: device log\n".as_slice());
+        assert!(rt; status == 5 && is_log);
         last = number;
     }
     assert!(rt; last > 2 && last < 19);
@@ -232,6 +264,21 @@ fn is_fine_or_failed(done: &Done<MemDisk>, sink: &MemSink, line: &[u8]) -> bool 
     }
 }
 
+// A call over two devices, with a source and a sink that don't fail.
+fn ask_on<R: Threads + Wait + Sync, D: Disk + Drop + Send>(
+    rt: &R,
+    alloc: Global,
+    asked: &[&str],
+    script: &[u8],
+    devices: (D, D),
+) -> Result<(Done<D>, MemSink), Fail> {
+    let mut source = MemSource::new(alloc, script, 1000, &[])?;
+    let mut sink = MemSink::new(alloc, 1000, 1000, &[])?;
+    let done = call_on(rt, alloc, asked, &mut source, &mut sink, devices, &OpenGate);
+    drop(source);
+    Ok((done?, sink))
+}
+
 // A run that saves its point, over these devices. It ends well, or with this line.
 fn saving<R: Threads + Wait + Sync>(
     rt: &R,
@@ -239,22 +286,23 @@ fn saving<R: Threads + Wait + Sync>(
     devices: Devices,
     line: &[u8],
 ) -> Result<Done<MemDisk>, Fail> {
-    let mut source = MemSource::new(alloc, SAVED, 1000, &[])?;
-    let mut sink = MemSink::new(alloc, 1000, 1000, &[])?;
-    let asked = ["run", "--save"];
-    let done = call_on(
-        rt,
-        alloc,
-        &asked,
-        &mut source,
-        &mut sink,
-        devices,
-        &OpenGate,
-    )?;
-    if !is_fine_or_failed(&done, &sink, line) {
-        return Err("a device failed")?;
-    }
-    Ok(done)
+    let (done, sink) = ask_on(rt, alloc, &["run", "--save"], SAVED, devices)?;
+    let is_told = is_fine_or_failed(&done, &sink, line);
+    drop(sink);
+    ensured(done, is_told, "a device failed")
+}
+
+// Whether it ends well.
+fn saves<R: Threads + Wait + Sync>(
+    rt: &R,
+    alloc: Global,
+    devices: Devices,
+    line: &[u8],
+) -> Result<bool, Fail> {
+    let done = saving(rt, alloc, devices, line)?;
+    let is_fine = ended_well(&done);
+    drop(done);
+    Ok(is_fine)
 }
 
 // What a run without an entry of its own writes over a log and a point.
@@ -265,14 +313,11 @@ fn looked<R: Threads + Wait + Sync>(
     log: &[u8],
     points: &[u8],
 ) -> Result<MemSink, Fail> {
-    let mut source = MemSource::new(alloc, GET, 1000, &[])?;
-    let mut sink = MemSink::new(alloc, 1000, 1000, &[])?;
     let devices = (roomy(alloc, log)?, roomy(alloc, points)?);
-    let done = call_on(rt, alloc, asked, &mut source, &mut sink, devices, &OpenGate)?;
-    if !ended_well(&done) {
-        return Err("what a crash left is refused")?;
-    }
-    Ok(sink)
+    let (done, sink) = ask_on(rt, alloc, asked, GET, devices)?;
+    let is_fine = ended_well(&done);
+    drop(done);
+    ensured(sink, is_fine, "what a crash left is refused")
 }
 
 const GET: &[u8] = b"shape 2 2 8\nservers 1\nclient 1\nbegin\nget 1\nend\n";
@@ -302,13 +347,16 @@ fn leads_there<R: Threads + Wait + Sync>(
 ) -> Result<bool, Fail> {
     let from_point = looked(rt, alloc, &["run", "--point"], log, points)?;
     let from_start = looked(rt, alloc, &["run"], log, points)?;
-    Ok(from_point.taken() == from_start.taken())
+    let is_same = from_point.taken() == from_start.taken();
+    drop(from_point);
+    drop(from_start);
+    Ok(is_same)
 }
 
 // How many entries the log on a device has.
 fn recovered<R: Threads + Wait + Sync>(rt: &R, alloc: Global, log: MemDisk) -> Result<Pos, Fail> {
-    let (done, _) = ask(rt, alloc, &["recover"], b"", log)?;
-    Ok(done.acked)
+    let (_, count) = ended(rt, alloc, &["recover"], b"", log, &OpenGate)?;
+    Ok(count)
 }
 
 // What a crash leaves of a run that saves: the entries that were acknowledged, and perhaps one batch more, which here is one
@@ -323,14 +371,12 @@ fn is_left_whole<R: Threads + Wait + Sync>(
     requires { pattern ≤ 2 }
 {
     let (is_fine, acked, (log, points)) = left(rt, alloc, devices, line, pattern)?;
-    if !leads_there(rt, alloc, log.bytes(), points.bytes())? {
-        return Err("a point leads elsewhere")?;
-    }
+    let leads = leads_there(rt, alloc, log.bytes(), points.bytes());
+    drop(points);
+    let log = ensured(log, leads?, "a point leads elsewhere")?;
     let count = recovered(rt, alloc, log)?;
-    if count != acked && count.checked_sub(1) != Some(acked) {
-        return Err("an acknowledged entry is lost")?;
-    }
-    Ok(is_fine)
+    let is_whole = count == acked || count.checked_sub(1) == Some(acked);
+    ensured(is_fine, is_whole, "an acknowledged entry is lost")
 }
 
 #[test]
@@ -341,7 +387,7 @@ fn each_device_fails_at_each_call_of_a_run_that_saves(rt: HostRuntime) -> Result
         let mut is_fine = false;
         for number in 1..100 {
             let devices = one_planned(alloc, of_log, number, false)?;
-            if ended_well(&saving(&rt, alloc, devices, line)?) {
+            if saves(&rt, alloc, devices, line)? {
                 is_fine = true;
                 break;
             }
@@ -405,9 +451,10 @@ fn each_write_and_sync_fails(rt: HostRuntime) -> Result<(), Fail> {
     for k in 1..12 {
         let log = struck(&rt, alloc, k)?;
         assert!(rt; k > 1 || log.bytes().is_empty());
+        drop(log);
     }
-    let (done, _) = ask(&rt, alloc, RUN, ONE_PUT, failing(alloc, 12)?)?;
-    assert_eq!(rt; done.status, Status::Fine);
+    let (status, _) = ended(&rt, alloc, RUN, ONE_PUT, failing(alloc, 12)?, &OpenGate)?;
+    assert_eq!(rt; status, Status::Fine);
     Ok(())
 }
 
@@ -423,7 +470,8 @@ fn is_left<R: Threads + Wait + Sync>(
 {
     let log = struck(rt, alloc, 10)?.stop(pattern);
     let log = told(rt, alloc, "the dump", &["recover"], b"", log, dump)?;
-    told(rt, alloc, "the next run", RUN, NO_CLIENT, log, again)?;
+    let log = told(rt, alloc, "the next run", RUN, NO_CLIENT, log, again)?;
+    drop(log);
     Ok(())
 }
 
@@ -446,24 +494,20 @@ fn crashed<R: Threads + Wait + Sync>(
     requires call { 1 ≤ k }
     requires pattern { pattern ≤ 2 }
 {
-    let (done, sink) = ask(rt, alloc, RUN, THREE_CLIENTS, failing(alloc, k)?)?;
-    if !is_answered(
-        &done,
-        &sink,
-        Answer {
-            number: 5,
-            acked: done.acked,
-            text: b"hyder: device log\n",
-        },
-    ) {
-        return Err("the device failed")?;
-    }
+    let (done, sink) = ask(rt, alloc, RUN, THREE_CLIENTS, failing(alloc, k)?, &OpenGate)?;
     let acked = done.acked;
-    let (done, _) = ask(rt, alloc, &["check"], b"", done.log.stop(pattern))?;
-    if !ended_well(&done) {
-        return Err("a log that can't be checked")?;
-    }
-    Ok((acked, done.acked))
+    let wanted = Answer {
+        number: 5,
+        acked,
+        text: b"hyder: device log\n",
+    };
+    let is_told = is_answered(&done, &sink, wanted);
+    drop(sink);
+    let log = ensured(log_of(done), is_told, "the device failed")?;
+    let log = log.stop(pattern);
+    let (status, left) = ended(rt, alloc, &["check"], b"", log, &OpenGate)?;
+    let is_fine = status == Status::Fine;
+    ensured((acked, left), is_fine, "a log that can't be checked")
 }
 
 // A crash after a failure leaves the entries that were acknowledged, and at most one batch more: each client has at most one entry in it.

@@ -1,11 +1,15 @@
 //! Calls of `run` and of `recover` whose ends don't fail, or fail once.
-use crate::calls::{RUN, call, empty, fine, roomy, told};
+use crate::calls::{RUN, call, empty, ended, fine, roomy, told};
 use crate::logs::{DUMP, ONE_PUT, one_put};
 use hy_io::{MemSink, MemSource};
+use hy_mem::MemDisk;
 use hy_pipe::{Gate, OpenGate};
-use hy_run::Status;
+use hy_run::{Done, Status};
+use std::alloc::Global;
+use std::sync::Wait;
 use std::sync::atomic::{AtomicU32, Ordering};
 use std::test::Fail;
+use std::thread::Threads;
 
 const ONE_PUT_OUT: &[u8] =
     b"trace 3\nb 1\na 1\nr 1 1\nprogram 1 1\nok\nat 1 commit\nserver 1 at 1 rows 1\nrow 1 a by 1\n";
@@ -26,41 +30,51 @@ fn a_run_writes_its_report_and_its_log(rt: HostRuntime) -> Result<(), Fail> {
             wanted,
         )?;
         assert!(rt; log.bytes() == one_put().as_slice());
+        drop(log);
     }
     Ok(())
+}
+
+// A call over a log with these bytes, whose source and sink may fail.
+fn written<R: Threads + Wait + Sync>(
+    rt: &R,
+    alloc: Global,
+    asked: &[&str],
+    mut source: MemSource,
+    sink: &mut MemSink,
+    bytes: &[u8],
+) -> Result<Done<MemDisk>, Fail> {
+    let log = roomy(alloc, bytes)?;
+    let done = call(rt, alloc, asked, &mut source, sink, log, &OpenGate);
+    drop(source);
+    done
 }
 
 // A command that looks at the log reads no source, so a source that fails isn't noticed.
 #[test]
 fn a_look_at_the_log_reads_no_source(rt: HostRuntime) -> Result<(), Fail> {
     let alloc = rt.alloc();
-    let mut source = MemSource::new(alloc, b"no script", 7, &[1])?;
+    let source = MemSource::new(alloc, b"no script", 7, &[1])?;
     let mut sink = MemSink::new(alloc, 1000, 1000, &[])?;
-    let log = roomy(alloc, &one_put())?;
-    let done = call(
-        &rt,
-        alloc,
-        &["recover"],
-        &mut source,
-        &mut sink,
-        log,
-        &OpenGate,
-    )?;
+    let done = written(&rt, alloc, &["recover"], source, &mut sink, &one_put())?;
     assert!(rt; done.status == Status::Fine && done.acked == 1);
     assert_eq!(rt; sink.taken(), DUMP);
+    drop(sink);
+    drop(done);
     Ok(())
 }
 
 #[test]
 fn a_sink_of_a_run_fails(rt: HostRuntime) -> Result<(), Fail> {
     let alloc = rt.alloc();
-    let mut source = MemSource::new(alloc, ONE_PUT, 7, &[])?;
+    let source = MemSource::new(alloc, ONE_PUT, 7, &[])?;
     let mut sink = MemSink::new(alloc, 1000, 10, &[2])?;
-    let log = roomy(alloc, b"")?;
-    let done = call(&rt, alloc, RUN, &mut source, &mut sink, log, &OpenGate)?;
+    let done = written(&rt, alloc, RUN, source, &mut sink, b"")?;
     assert!(rt; done.status == Status::Sink && done.acked == 1);
     assert_eq!(rt; sink.taken(), b"trace 3\nb ".as_slice());
     assert!(rt; done.log.bytes() == one_put().as_slice());
+    drop(sink);
+    drop(done);
     Ok(())
 }
 
@@ -94,11 +108,8 @@ fn two_clients_run_at_one_time(rt: HostRuntime) -> Result<(), Fail> {
         started: AtomicU32::new(0),
         gave_up: AtomicU32::new(0),
     };
-    let mut source = MemSource::new(alloc, script, 7, &[])?;
-    let mut sink = MemSink::new(alloc, 1000, 1000, &[])?;
-    let log = roomy(alloc, b"")?;
-    let done = call(&rt, alloc, RUN, &mut source, &mut sink, log, &gate)?;
-    assert!(rt; done.status == Status::Fine && done.acked == 2);
+    let (status, acked) = ended(&rt, alloc, RUN, script, empty(alloc)?, &gate)?;
+    assert!(rt; status == Status::Fine && acked == 2);
     assert_eq!(rt; gate.started.load(Ordering::SeqCst), 2);
     assert_eq!(rt; gate.gave_up.load(Ordering::SeqCst), 0);
     Ok(())
