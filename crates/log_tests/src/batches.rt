@@ -5,7 +5,7 @@ use crate::calls::{
     PUT, SHAPE, add, append, arm, bad, close, device, empty_log, flush, front, log_on, open,
     records, stop,
 };
-use crate::damage::found;
+use crate::damaged_devices::found;
 use hy_base::Shape;
 use hy_formats::Damage;
 use hy_log::{AddError, PageLog};
@@ -13,15 +13,18 @@ use hy_mem::MemDisk;
 use std::alloc::Global;
 use std::test::Fail;
 
+// Whether two puts go into the batch of a log.
+fn adds_two(log: &mut PageLog<MemDisk>) -> bool {
+    add(log, &PUT) == Some(Ok(())) && add(log, &PUT) == Some(Ok(()))
+}
+
 // An empty log, with two puts in its batch.
 fn two_wait(alloc: Global) -> Result<PageLog<MemDisk>, Fail> {
     let mut log = empty_log(alloc, SHAPE)?;
-    for _ in 0..2 {
-        if add(&mut log, &PUT) != Some(Ok(())) {
-            return Err("not added")?;
-        }
+    if adds_two(&mut log) {
+        return Ok(log);
     }
-    Ok(log)
+    Err("not added")?
 }
 
 #[test]
@@ -36,6 +39,15 @@ fn two_bodies_take_a_page_each(rt: HostRuntime) -> Result<(), Fail> {
     Ok(())
 }
 
+// Whether a flush from position 1 on fails, and stops the log there.
+fn is_stopped(log: &mut PageLog<MemDisk>) -> bool {
+    let has_failed = match flush(log) {
+        Some(answer) => answer.is_err(),
+        None => false,
+    };
+    has_failed && log.stopped() == Some(1)
+}
+
 // How many bodies an empty log has after a stop in device call k of a flush of two.
 fn kept(alloc: Global, k: u64, pattern: u8) -> Result<u32, Fail>
     requires k { 1 ≤ k }
@@ -43,13 +55,13 @@ fn kept(alloc: Global, k: u64, pattern: u8) -> Result<u32, Fail>
 {
     let mut log = two_wait(alloc)?;
     arm(&mut log, k);
-    let Some(Err(_)) = flush(&mut log) else {
+    if !is_stopped(&mut log) {
         return Err("not stopped")?;
-    };
-    let Some(1) = log.stopped() else {
-        return Err("stopped elsewhere")?;
-    };
-    Ok(log_on(alloc, stop(log, pattern), SHAPE)?.len())
+    }
+    let again = log_on(alloc, stop(log, pattern), SHAPE)?;
+    let count = again.len();
+    drop(again);
+    Ok(count)
 }
 
 #[test]
@@ -109,22 +121,27 @@ fn a_batch_stands_whole_behind_a_torn_gate(rt: HostRuntime) -> Result<(), Fail> 
     Ok(())
 }
 
-// Whether a flush of two bodies passes on a device that is given so much room.
+// Whether a flush of two bodies passes, with so much room more.
+fn flushes_two(log: &mut PageLog<MemDisk>, bytes: usize, calls: usize) -> Result<bool, Fail> {
+    log.room(bytes, calls)?;
+    if !adds_two(log) {
+        return Err("not added")?;
+    }
+    match flush(log) {
+        Some(answer) => Ok(answer.is_ok()),
+        None => Err("nothing waits")?,
+    }
+}
+
+// The same on a device without other room.
 fn flushes(alloc: Global, bytes: usize, calls: usize) -> Result<bool, Fail> {
     let disk = device(alloc, &records(0, 0), 0, 1)?;
     let Ok(mut log) = open(alloc, disk, None) else {
         return Err("not opened")?;
     };
-    log.room(bytes, calls)?;
-    for _ in 0..2 {
-        if add(&mut log, &PUT) != Some(Ok(())) {
-            return Err("not added")?;
-        }
-    }
-    match flush(&mut log) {
-        Some(answer) => Ok(answer.is_ok()),
-        None => Err("nothing waits")?,
-    }
+    let flushes = flushes_two(&mut log, bytes, calls);
+    drop(log);
+    flushes
 }
 
 #[test]

@@ -4,6 +4,7 @@ ghost use Rattle.std.specs.Prelude.{◌≡◌, ◌≤◌, length, IfOk, IfSome};
 ghost use Rattle.hy_base.specs.Shape.{IsGoodShape};
 ghost use Rattle.hy_formats.specs.LogFormat.{longest_body};
 
+use crate::memory_device;
 use hy_base::{Pos, Shape};
 use hy_disk::{Disk, Failed, Tuned};
 use hy_formats::{BadPage, Damage, LONGEST_BODY};
@@ -114,7 +115,7 @@ pub fn close<D: Disk>(log: PageLog<D>) -> D {
 pub fn stop(log: PageLog<MemDisk>, pattern: u8) -> MemDisk
     requires { pattern ≤ 2 }
 {
-    log.close().stop(pattern)
+    memory_device::stop(log.close(), pattern)
 }
 
 /// Orders that the k-th write or sync from now on fails.

@@ -1,17 +1,43 @@
-//! Tests of `hy_file` and `hy_log`: a file as a device; the log over a device in memory, with what it writes, byte by byte, and
-//! what a stop in each device call of it leaves; damaged devices; and the log over a real file. It promises nothing to a
-//! crate above.
+//! Tests of the log and of what it stands on, in this order: values, the plain fold, sources and sinks; words and scripts; bytes
+//! of entries, pages and saved points, and texts; devices in memory and in files; the log on them, and saves of points, with what
+//! a stop in each device call leaves. Bytes and answers were counted by hand. It promises nothing to a crate above.
 #![tactic(auto)]
 
+#[cfg(test)]
+mod base;
 #[cfg(test)]
 mod batches;
 #[cfg(test)]
 mod calls;
 #[cfg(test)]
-mod damage;
+mod codec;
 #[cfg(test)]
-mod devices;
+mod damaged_devices;
 #[cfg(test)]
-mod file;
+mod entries;
 #[cfg(test)]
-mod memory;
+mod file_device;
+#[cfg(test)]
+mod input;
+#[cfg(test)]
+mod io;
+#[cfg(test)]
+mod log_in_memory;
+#[cfg(test)]
+mod log_on_file;
+#[cfg(test)]
+mod memory_device;
+#[cfg(test)]
+mod pages;
+#[cfg(test)]
+mod point_format;
+#[cfg(test)]
+mod rules;
+#[cfg(test)]
+mod saving;
+#[cfg(test)]
+mod script;
+#[cfg(test)]
+mod text;
+#[cfg(test)]
+mod words;

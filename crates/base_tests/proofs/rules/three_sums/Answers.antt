@@ -1,5 +1,0 @@
-use Rattle.std.proofs.Common.{◌+◌, arith}
-use Rattle.base_tests.proofs.rules.three_sums.Goals as goal
-
-pub plain_fold-requires-clause-lawful : goal.plain_fold-requires-clause-lawful
-plain_fold-requires-clause-lawful c = rw (c.deref.ensures.value, c.in_ok-entries.ensures.items) (record { capacity = omega arith; snaps = (c.in_ok-a.ensures (0 + 1), (c.in_ok-b.ensures (0 + 1 + 1), (c.in_ok-c.ensures (0 + 1 + 1 + 1), tt))) })

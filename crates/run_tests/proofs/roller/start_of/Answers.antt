@@ -1,0 +1,35 @@
+use Rattle.std.proofs.Common.{◌≡◌, ◌*◌, ◌/◌, ◌%◌, ◌≤◌, ℕ, List, [], ◌∷◌, sym, ap, subst, ◌∙◌, arith}
+use Rattle.std.proofs.Math.Nat.{mul-mod_right}
+use Rattle.hy_base.specs.declared.layout.Shape.{Shape}
+use Rattle.hy_base.specs.declared.record.Row.{Row}
+use Rattle.hy_base.specs.Shape.{IsWithin, base_groups}
+use Rattle.hy_base.specs.Rows.{Each}
+use Rattle.hy_rolling.specs.Rolling.{AreWritten, Roll, rolled_upto, next_base}
+use Rattle.hy_formats.specs.Checkpoint.{base_behind}
+use Rattle.hy_pipe.specs.RollerLaws.{IsRoller}
+use Rattle.run_tests.proofs.roller.start_of.Goals as goal
+
+again : (g n : ℕ) → 1 ≤ g → g * n / g ≡ n
+again g n some = grind arith
+
+base_there : (r : Roll) → IsRoller r → next_base r ≡ base_behind r.shape (rolled_upto r)
+base_there r is = ap (λ (k : ℕ). r.shape.group * base_groups r.shape k) (sym (again r.shape.group r.rolled.groups is.good.group.at_least))
+
+within : (high : ℕ) (rows : List Row) → AreWritten rows → Each (λ row. row.writer ≤ high) rows → Each (λ row. IsWithin 1 high row.writer) rows
+within high [] low below = tt
+within high (row ∷ rows) low below = (record { at_least = low.0; at_most = below.0 }, within high rows low.1 below.1)
+
+base_rows : (r : Roll) → IsRoller r → Each (λ row. IsWithin 1 (base_behind r.shape (rolled_upto r)) row.writer) r.rolled.base_tree
+base_rows r is = subst (λ (high : ℕ). Each (λ row. IsWithin 1 high row.writer) r.rolled.base_tree) (base_there r is) (within (next_base r) r.rolled.base_tree is.is_rolled.base_written is.is_rolled.base_later.old)
+
+start : (s : Shape) (r : Roll) (rows : List Row) (at : ℕ) → IsRoller r → r.shape ≡ s → rows ≡ r.rolled.base_tree → at ≡ rolled_upto r
+    → (at % s.group ≡ 0) × Each (λ row. IsWithin 1 (base_behind s at) row.writer) rows
+start s r rows at is same rows_are at_is =
+    rw (rows_are, at_is)
+    (subst (λ (t : Shape). (rolled_upto r % t.group ≡ 0) × Each (λ row. IsWithin 1 (base_behind t (rolled_upto r)) row.writer) r.rolled.base_tree) same (mul-mod_right r.shape.group r.rolled.groups, base_rows r is))
+
+pub returns-clause-whole : goal.returns-clause-whole
+returns-clause-whole c = (start c.args.shape c.args.roller.now c.in_ok-rows.rows c.at-at.result c.base_tree.ensures.valid c.requires.same (c.in_ok-rows.ensures.same ∙ c.base_tree.ensures.rows) c.at-at.ensures).0
+
+pub returns-clause-rows : goal.returns-clause-rows
+returns-clause-rows c = (start c.args.shape c.args.roller.now c.in_ok-rows.rows c.at-at.result c.base_tree.ensures.valid c.requires.same (c.in_ok-rows.ensures.same ∙ c.base_tree.ensures.rows) c.at-at.ensures).1

@@ -1,0 +1,796 @@
+//! Small hubs over devices in memory.
+ghost use Rattle.std.specs.Prelude.{◌≡◌, ◌+◌, ◌<◌, ◌≤◌, All, IfOk, IfSome, length, ℕ, []};
+ghost use Rattle.hy_base.specs.Shape.{IsGoodShape, IsWithin};
+ghost use Rattle.hy_hub.specs.Calls.{IsIdle};
+ghost use Rattle.run_tests.specs.Trial.{IsTrial, IsPutOf};
+
+use crate::calls::empty;
+use hy_base::{
+    Entry, Event, Home, Intention, Phase, Points, Pos, Shape, Spans, Value, Verdict, Write, Writes,
+};
+use hy_disk::{Disk, Tuned};
+use hy_hist::Pass;
+use hy_hub::*;
+use hy_log::{PageLog, open_log};
+use hy_mem::MemDisk;
+use hy_pipe::{OpenGate, Roller, Told};
+use std::alloc::{AllocError, Global};
+use std::sync::Wait;
+use std::test::Fail;
+use std::thread;
+use std::thread::Threads;
+
+/// A hub, and a pass with all its parts.
+pub type Trial<D> = (Hub<D>, Pass<Contents<D>>);
+
+/// A log without entries on a device.
+pub fn open_on<D: Disk + Drop>(alloc: Global, disk: D, shape: Shape) -> Result<PageLog<D>, Fail>
+    requires { IsGoodShape shape }
+    ensures { IfOk result (λ log. (log.stopped ≡ None) × (log.batch ≡ []) × (log.bodies ≡ []) × (log.shape ≡ shape)) }
+{
+    let Ok(log) = open_log(alloc, disk, Some(shape)) else {
+        return Err("not opened")?;
+    };
+    if log.len() != 0 || log.shape() != shape {
+        return Err("not an empty log of this shape")?;
+    }
+    Ok(log)
+}
+
+// A log without entries on a device in memory.
+fn log_on(alloc: Global, shape: Shape) -> Result<PageLog<MemDisk>, Fail>
+    requires { IsGoodShape shape }
+    ensures { IfOk result (λ log. (log.stopped ≡ None) × (log.batch ≡ []) × (log.bodies ≡ []) × (log.shape ≡ shape)) }
+{
+    open_on(alloc, empty(alloc)?, shape)
+}
+
+/// A hub of two servers with a client each, which has three programs.
+pub fn hub_on<D: Disk + Drop>(
+    alloc: Global,
+    shape: Shape,
+    log: PageLog<D>,
+) -> Result<Trial<D>, Fail>
+    requires { IsGoodShape shape × (log.stopped ≡ None) × (log.batch ≡ []) × (log.bodies ≡ []) × (log.shape ≡ shape) }
+    ensures trial { IfOk result (λ r. IsTrial r.0 shape r.1) }
+    ensures parts { IfOk result (λ r. (r.0.parts ≡ 129) × (r.1.parts ≡ 129)) }
+{
+    let homes = [
+        Home {
+            server: 1,
+            programs: 3,
+        },
+        Home {
+            server: 2,
+            programs: 3,
+        },
+    ];
+    let start = Roller::new(alloc, shape)?;
+    match Hub::new(alloc, log, Vec::new(alloc), start, 2, &homes) {
+        Ok(made) => Ok(made),
+        Err(_) => Err(Fail::from(AllocError)),
+    }
+}
+
+fn start(alloc: Global, shape: Shape) -> Result<Trial<MemDisk>, Fail>
+    requires { IsGoodShape shape }
+    ensures trial { IfOk result (λ r. IsTrial r.0 shape r.1) }
+    ensures parts { IfOk result (λ r. (r.0.parts ≡ 129) × (r.1.parts ≡ 129)) }
+{
+    let log = log_on(alloc, shape)?;
+    hub_on(alloc, shape, log)
+}
+
+// A put of a byte at key 1 by a client of the server with its number. None where memory is wanting.
+fn put(alloc: Global, client: u8, snap: Pos, byte: u8) -> Option<Entry>
+    requires { IsWithin 1 2 client }
+    ensures { IfSome result (IsPutOf client) }
+{
+    let value = Value::new(vec![in alloc; byte; 1].ok()?).ok()?;
+    let write = Write {
+        key: 1,
+        value: Some(value),
+    };
+    Some(Entry::transaction(Intention {
+        server: client,
+        client,
+        snap,
+        points: Points::new(alloc),
+        spans: Spans::new(alloc),
+        writes: Writes::from_vec(vec![in alloc; write].ok()?),
+    }))
+}
+
+// The client's next program begins.
+fn begin<D: Disk, R: Wait>(
+    rt: &R,
+    shape: Shape,
+    hub: &Hub<D>,
+    pass: &mut Pass<Contents<D>>,
+    client: u8,
+) -> Result<Begun, BeginRefusal>
+    requires trial { IsTrial hub.now shape pass.old }
+    requires client { IsWithin 1 2 client }
+    ensures trial { IsTrial hub.now shape pass.new }
+    ensures parts { pass.new.parts ≡ pass.old.parts }
+{
+    let _ = shape;
+    hub.begin(rt, pass, client)
+}
+
+/// Whether the client's next program begins.
+pub fn begins<D: Disk, R: Wait>(
+    rt: &R,
+    shape: Shape,
+    hub: &Hub<D>,
+    pass: &mut Pass<Contents<D>>,
+    client: u8,
+) -> bool
+    requires trial { IsTrial hub.now shape pass.old }
+    requires client { IsWithin 1 2 client }
+    ensures trial { IsTrial hub.now shape pass.new }
+    ensures parts { pass.new.parts ≡ pass.old.parts }
+{
+    let begun = begin(rt, shape, hub, pass, client);
+    let is_begun = begun.is_ok();
+    drop(begun);
+    is_begun
+}
+
+fn append<D: Disk, R: Wait>(
+    rt: &R,
+    shape: Shape,
+    hub: &Hub<D>,
+    pass: &mut Pass<Contents<D>>,
+    client: u8,
+    entry: Entry,
+) -> Result<Pos, AppendRefusal>
+    requires trial { IsTrial hub.now shape pass.old }
+    requires client { IsWithin 1 2 client }
+    requires own { IsPutOf client entry }
+    ensures trial { IsTrial hub.now shape pass.new }
+    ensures parts { pass.new.parts ≡ pass.old.parts }
+{
+    let _ = shape;
+    hub.append(rt, pass, client, entry)
+}
+
+// What a server's look gives, rolled and published.
+fn catch_up<D: Disk, R: Threads + Wait + Sync>(
+    rt: &R,
+    alloc: Global,
+    shape: Shape,
+    hub: &Hub<D>,
+    pass: &mut Pass<Contents<D>>,
+    server: u8,
+) -> Option<Result<(), PublishRefusal>>
+    requires trial { IsTrial hub.now shape pass.old }
+    requires server { IsWithin 1 2 server }
+    ensures trial { IsTrial hub.now shape pass.new }
+    ensures parts { pass.new.parts ≡ pass.old.parts }
+{
+    let _ = shape;
+    let look = hub.look(rt, pass, server).ok()?;
+    let entries = look.entries.as_slice();
+    let rolled = look.roller.roll(rt, alloc, entries, 1, &OpenGate).ok();
+    drop(look);
+    Some(hub.publish(rt, pass, server, rolled?))
+}
+
+/// Groups of one.
+pub const SHAPE: Shape = Shape {
+    group: 1,
+    window: 1,
+    cap: 8,
+};
+
+const PAIRS: Shape = Shape {
+    group: 2,
+    window: 1,
+    cap: 8,
+};
+
+const FOURS: Shape = Shape {
+    group: 4,
+    window: 1,
+    cap: 8,
+};
+
+const SMALL: Shape = Shape {
+    group: 1,
+    window: 1,
+    cap: 1,
+};
+
+/// The client's next program begins, and puts a byte.
+pub fn put_once<D: Disk, R: Wait>(
+    rt: &R,
+    alloc: Global,
+    shape: Shape,
+    hub: &Hub<D>,
+    pass: &mut Pass<Contents<D>>,
+    client: u8,
+) -> Option<Result<Pos, AppendRefusal>>
+    requires trial { IsTrial hub.now shape pass.old }
+    requires client { IsWithin 1 2 client }
+    ensures trial { IsTrial hub.now shape pass.new }
+    ensures parts { pass.new.parts ≡ pass.old.parts }
+{
+    let begun = begin(rt, shape, hub, pass, client).ok()?;
+    let snap = begun.snap;
+    drop(begun);
+    let entry = put(alloc, client, snap, b'a')?;
+    Some(append(rt, shape, hub, pass, client, entry))
+}
+
+// A small hub, with the one pass that has all its parts.
+#[derive(Drop)]
+struct Bench {
+    alloc: Global,
+    shape: Shape,
+    hub: Hub<MemDisk>,
+    pass: Pass<Contents<MemDisk>>,
+    ghost trial: { IsTrial hub shape pass },
+    ghost whole: { hub.parts ≡ pass.parts },
+}
+
+impl Bench {
+    fn new(alloc: Global, shape: Shape) -> Result<Bench, Fail>
+        requires { IsGoodShape shape }
+    {
+        let (hub, pass) = start(alloc, shape)?;
+        Ok(Bench {
+            alloc,
+            shape,
+            hub,
+            pass,
+        })
+    }
+
+    // Its device fails in its k-th write or sync.
+    fn failing(alloc: Global, shape: Shape, k: u64) -> Result<Bench, Fail>
+        requires { IsGoodShape shape × (1 ≤ k) }
+    {
+        let mut log = log_on(alloc, shape)?;
+        log.arm(k);
+        let (hub, pass) = hub_on(alloc, shape, log)?;
+        Ok(Bench {
+            alloc,
+            shape,
+            hub,
+            pass,
+        })
+    }
+
+    fn begin<R: Wait>(&mut self, rt: &R, client: u8) -> Result<Begun, BeginRefusal>
+        requires { IsWithin 1 2 client }
+    {
+        begin(rt, self.shape, &self.hub, &mut self.pass, client)
+    }
+
+    // The snapshot of the client's next program, and how many rows its server's roller has there.
+    fn begun<R: Wait>(&mut self, rt: &R, client: u8) -> Option<(Pos, u64)>
+        requires { IsWithin 1 2 client }
+    {
+        let begun = self.begin(rt, client).ok()?;
+        let found = (begun.snap, begun.roller.tree().row_count());
+        drop(begun);
+        Some(found)
+    }
+
+    // The client's next program begins, and puts a byte.
+    fn put<R: Wait>(&mut self, rt: &R, client: u8) -> Option<Result<Pos, AppendRefusal>>
+        requires { IsWithin 1 2 client }
+    {
+        let (alloc, shape) = (self.alloc, self.shape);
+        put_once(rt, alloc, shape, &self.hub, &mut self.pass, client)
+    }
+
+    // A put of the client on a snapshot, whether or not it began there.
+    fn append<R: Wait>(
+        &mut self,
+        rt: &R,
+        client: u8,
+        snap: Pos,
+    ) -> Option<Result<Pos, AppendRefusal>>
+        requires { IsWithin 1 2 client }
+    {
+        let entry = put(self.alloc, client, snap, b'b')?;
+        let (hub, pass) = (&self.hub, &mut self.pass);
+        Some(append(rt, self.shape, hub, pass, client, entry))
+    }
+
+    fn end<R: Wait>(&mut self, rt: &R, client: u8) -> Result<(), EndRefusal>
+        requires { IsWithin 1 2 client }
+    {
+        self.hub.end(rt, &mut self.pass, client)
+    }
+
+    fn pad<R: Wait>(&mut self, rt: &R, server: u8) -> Result<Pos, PadRefusal>
+        requires { IsWithin 1 2 server }
+    {
+        self.hub.pad(rt, &mut self.pass, server)
+    }
+
+    fn catch_up<R: Threads + Wait + Sync>(
+        &mut self,
+        rt: &R,
+        server: u8,
+    ) -> Option<Result<(), PublishRefusal>>
+        requires { IsWithin 1 2 server }
+    {
+        let (alloc, shape) = (self.alloc, self.shape);
+        catch_up(rt, alloc, shape, &self.hub, &mut self.pass, server)
+    }
+
+    fn verdict<R: Wait>(&mut self, rt: &R, server: u8, pos: Pos) -> Told
+        requires { IsWithin 1 2 server }
+    {
+        self.hub.verdict(rt, &mut self.pass, server, pos)
+    }
+
+    // Not where memory is wanting.
+    fn has_trace<R: Wait>(&mut self, rt: &R, wanted: &[Event]) -> bool {
+        match self.hub.trace(rt, &mut self.pass) {
+            Ok(trace) => trace.as_slice() == wanted,
+            Err(_) => false,
+        }
+    }
+
+    fn close(self) -> Closed<MemDisk> {
+        let Bench {
+            alloc: _,
+            shape: _,
+            hub,
+            pass,
+        } = self;
+        hub.close(pass)
+    }
+}
+
+// The device of a hub that is closed.
+fn device_of<D: Disk + Drop>(closed: Closed<D>) -> D {
+    closed.log.close()
+}
+
+// The refusal of a call that comes when its client is elsewhere.
+fn running(snap: Pos) -> Phase {
+    Phase::Begun { snap }
+}
+
+#[test]
+fn a_program_is_begun_and_appended(rt: HostRuntime) -> Result<(), Fail> {
+    let mut bench = Bench::new(rt.alloc(), SHAPE)?;
+    assert!(rt; bench.put(&rt, 1) == Some(Ok(1)));
+    let behind = BeginRefusal::Behind { last: 1, board: 0 };
+    assert!(rt; bench.begin(&rt, 1).err() == Some(behind));
+    assert!(rt; bench.pad(&rt, 1) == Err(PadRefusal::Even));
+    let closed = bench.close();
+    assert!(rt; closed.entries.len() == 1 && closed.marks.len() == 5);
+    assert!(rt; device_of(closed).bytes().len() == 513);
+    Ok(())
+}
+
+#[test]
+fn the_turn_to_roll_is_given_back(rt: HostRuntime) -> Result<(), Fail> {
+    let bench = Bench::new(rt.alloc(), SHAPE)?;
+    for _time in 0..2 {
+        assert!(rt; bench.hub.take_roll(&rt, 1) && bench.hub.take_roll(&rt, 2));
+        bench.hub.end_roll(1);
+        bench.hub.end_roll(2);
+    }
+    drop(bench);
+    Ok(())
+}
+
+#[test]
+fn an_entry_is_published(rt: HostRuntime) -> Result<(), Fail> {
+    let mut bench = Bench::new(rt.alloc(), SHAPE)?;
+    assert!(rt; bench.put(&rt, 1) == Some(Ok(1)));
+    assert!(rt; bench.verdict(&rt, 1, 1) == Told::NotYet { at: 0 });
+    assert!(rt; bench.catch_up(&rt, 1) == Some(Ok(())));
+    assert!(rt; bench.verdict(&rt, 1, 1) == Told::Known(Some(Verdict::Commit)));
+    assert!(rt; bench.verdict(&rt, 1, 0) == Told::Past { from: 0 });
+    drop(bench);
+    Ok(())
+}
+
+#[test]
+fn a_board_is_published_once(rt: HostRuntime) -> Result<(), Fail> {
+    let mut bench = Bench::new(rt.alloc(), SHAPE)?;
+    assert!(rt; bench.put(&rt, 1) == Some(Ok(1)));
+    assert!(rt; bench.catch_up(&rt, 1) == Some(Ok(())));
+    let stale = PublishRefusal::Stale { board: 1 };
+    assert!(rt; bench.catch_up(&rt, 1) == Some(Err(stale)));
+    let wanted = [
+        Event::Begin { client: 1 },
+        Event::Append { client: 1 },
+        Event::Publish { server: 1, upto: 1 },
+    ];
+    assert!(rt; bench.has_trace(&rt, &wanted));
+    drop(bench);
+    Ok(())
+}
+
+#[test]
+fn a_call_out_of_turn_is_refused(rt: HostRuntime) -> Result<(), Fail> {
+    let mut bench = Bench::new(rt.alloc(), SHAPE)?;
+    let client = 1;
+    assert!(rt; bench.put(&rt, 1) == Some(Ok(1)));
+    assert!(rt; bench.catch_up(&rt, 1) == Some(Ok(())));
+    assert!(rt; bench.begun(&rt, 1) == Some((1, 1)));
+    let phase = running(1);
+    let twice = BeginRefusal::OutOfTurn { client, phase };
+    assert!(rt; bench.begin(&rt, 1).err() == Some(twice));
+    let other = AppendRefusal::OutOfTurn { client, phase };
+    assert!(rt; bench.append(&rt, 1, 0) == Some(Err(other)));
+    assert!(rt; bench.end(&rt, 1) == Ok(()));
+    let phase = Phase::Idle;
+    let idle = EndRefusal::OutOfTurn { client, phase };
+    assert!(rt; bench.end(&rt, 1) == Err(idle));
+    drop(bench);
+    Ok(())
+}
+
+#[test]
+fn a_pad_completes_a_group(rt: HostRuntime) -> Result<(), Fail> {
+    let mut bench = Bench::new(rt.alloc(), PAIRS)?;
+    assert!(rt; bench.put(&rt, 1) == Some(Ok(1)));
+    assert!(rt; bench.pad(&rt, 2) == Ok(2));
+    assert!(rt; bench.catch_up(&rt, 1) == Some(Ok(())));
+    assert!(rt; bench.begun(&rt, 1) == Some((2, 1)));
+    assert!(rt; bench.verdict(&rt, 1, 2) == Told::Known(None));
+    drop(bench);
+    Ok(())
+}
+
+#[test]
+fn a_full_log_refuses_the_program(rt: HostRuntime) -> Result<(), Fail> {
+    let mut bench = Bench::new(rt.alloc(), SMALL)?;
+    assert!(rt; bench.put(&rt, 1) == Some(Ok(1)));
+    assert!(rt; bench.put(&rt, 2) == Some(Err(AppendRefusal::Full)));
+    let wanted = [
+        Event::Begin { client: 1 },
+        Event::Append { client: 1 },
+        Event::Begin { client: 2 },
+        Event::Refuse { client: 2 },
+    ];
+    assert!(rt; bench.has_trace(&rt, &wanted));
+    drop(bench);
+    Ok(())
+}
+
+#[test]
+fn an_append_that_fails_stops_the_hub(rt: HostRuntime) -> Result<(), Fail> {
+    let mut bench = Bench::failing(rt.alloc(), SHAPE, 3)?;
+    assert!(rt; bench.put(&rt, 1) == Some(Err(AppendRefusal::Device)));
+    let stopped = AppendRefusal::Stopped { at: 1 };
+    assert!(rt; bench.put(&rt, 2) == Some(Err(stopped)));
+    assert!(rt; bench.end(&rt, 1) == Ok(()));
+    let wanted = [
+        Event::Begin { client: 1 },
+        Event::Begin { client: 2 },
+        Event::End { client: 1 },
+    ];
+    assert!(rt; bench.has_trace(&rt, &wanted));
+    let closed = bench.close();
+    assert!(rt; closed.log.stopped() == Some(1) && closed.entries.len() == 0);
+    assert!(rt; is_one_body(rt.alloc(), device_of(closed).stop(1)));
+    Ok(())
+}
+
+// Whether a device holds a log of one body.
+fn is_one_body(alloc: Global, disk: MemDisk) -> bool {
+    match open_log(alloc, disk, Some(SHAPE)) {
+        Ok(log) => log.len() == 1,
+        Err(_) => false,
+    }
+}
+
+#[test]
+fn a_pad_that_fails_leaves_no_filler(rt: HostRuntime) -> Result<(), Fail> {
+    let mut bench = Bench::failing(rt.alloc(), FOURS, 7)?;
+    assert!(rt; bench.put(&rt, 1) == Some(Ok(1)));
+    assert!(rt; bench.pad(&rt, 1) == Err(PadRefusal::Device));
+    assert!(rt; bench.pad(&rt, 1) == Err(PadRefusal::Stopped { at: 2 }));
+    let closed = bench.close();
+    assert!(rt; closed.entries.len() == 1 && closed.log.len() == 1);
+    drop(closed);
+    Ok(())
+}
+
+#[test]
+fn fillers_are_written_at_once(rt: HostRuntime) -> Result<(), Fail> {
+    let mut bench = Bench::failing(rt.alloc(), FOURS, 9)?;
+    assert!(rt; bench.put(&rt, 1) == Some(Ok(1)));
+    assert!(rt; bench.pad(&rt, 1) == Ok(4));
+    let closed = bench.close();
+    assert!(rt; closed.entries.len() == 4 && closed.log.stopped().is_none());
+    drop(closed);
+    Ok(())
+}
+
+// A client's programs, one after another, each begun once its server has published the one before.
+fn run_client<D: Disk, R: Threads + Wait + Sync>(
+    rt: &R,
+    alloc: Global,
+    hub: &Hub<D>,
+    pass: &mut Pass<Contents<D>>,
+    client: u8,
+) -> Option<()>
+    requires trial { IsTrial hub.now SHAPE pass.old }
+    requires client { IsWithin 1 2 client }
+    ensures trial { IsTrial hub.now SHAPE pass.new }
+    ensures parts { pass.new.parts ≡ pass.old.parts }
+{
+    for _program in 0..3 {
+        put_once(rt, alloc, SHAPE, hub, pass, client)?.ok()?;
+        catch_up(rt, alloc, SHAPE, hub, pass, client)?.ok()?;
+    }
+    Some(())
+}
+
+// A client whose programs run on a thread, with a pass of its own.
+#[derive(Drop)]
+struct Errand<D: Disk> {
+    client: u8,
+    pass: Pass<Contents<D>>,
+    done: bool,
+}
+
+fn run_errand<D: Disk, R: Threads + Wait + Sync>(
+    rt: &R,
+    alloc: Global,
+    hub: &Hub<D>,
+    errand: &mut Errand<D>,
+)
+    requires client { IsWithin 1 2 errand.old.client }
+    requires trial { IsTrial hub.now SHAPE errand.old.pass }
+    ensures trial { IsTrial hub.now SHAPE errand.new.pass }
+{
+    let client = errand.client;
+    let ran = run_client(rt, alloc, hub, &mut errand.pass, client);
+    errand.done = ran.is_some();
+}
+
+// Runs the errands beside each other, on two threads.
+fn run_errands<D: Disk + Send, R: Threads + Wait + Sync>(
+    rt: &R,
+    alloc: Global,
+    hub: &Hub<D>,
+    errands: &mut [Errand<D>],
+)
+    requires clients { All (λ errand. IsWithin 1 2 errand.client) errands.old }
+    requires trial { All (λ errand. IsTrial hub.now SHAPE errand.pass) errands.old }
+    ensures trial { All (λ errand. IsTrial hub.now SHAPE errand.pass) errands.new }
+    ensures count { length errands.new ≡ length errands.old }
+{
+    thread::for_each_mut(
+        rt,
+        errands,
+        2,
+        &|_, errand: &mut Errand<D>|
+            requires { IsWithin 1 2 errand.now.client × IsTrial hub.now SHAPE errand.now.pass }
+            ensures { IsTrial hub.entry.now SHAPE errand.exit.now.pass }
+        { run_errand(rt, alloc, hub, errand) },
+    );
+}
+
+// Takes in the pass of the last errand. Whether there was one, and its client is done.
+fn join_last<D: Disk>(
+    hub: &Hub<D>,
+    pass: &mut Pass<Contents<D>>,
+    errands: &mut Vec<Errand<D>>,
+) -> bool
+    requires pass { IsIdle hub.now pass.old }
+    requires trial { All (λ errand. IsTrial hub.now SHAPE errand.pass) errands.old.items }
+    ensures pass { IsIdle hub.now pass.new }
+    ensures trial { All (λ errand. IsTrial hub.now SHAPE errand.pass) errands.new.items }
+{
+    match errands.pop() {
+        Some(errand) => {
+            let Errand {
+                client: _,
+                pass: own,
+                done,
+            } = errand;
+            hub.join(pass, own);
+            done
+        }
+        None => false,
+    }
+}
+
+// Both clients beside each other, each with a pass of its own.
+fn run_beside<R: Threads + Wait + Sync>(rt: &R, alloc: Global) -> Result<Events, Fail> {
+    let (hub, mut pass) = start(alloc, SHAPE)?;
+    let one = Errand {
+        client: 1,
+        pass: hub.split(&mut pass, 1),
+        done: false,
+    };
+    let other = Errand {
+        client: 2,
+        pass: hub.split(&mut pass, 1),
+        done: false,
+    };
+    let mut errands = vec![in alloc; one, other]?;
+    run_errands(rt, alloc, &hub, &mut errands);
+    let other_done = join_last(&hub, &mut pass, &mut errands);
+    let one_done = join_last(&hub, &mut pass, &mut errands);
+    let trace = hub.trace(rt, &mut pass);
+    drop(errands);
+    drop(pass);
+    drop(hub);
+    let trace = trace?;
+    if !one_done || !other_done {
+        return Err("a client is not done")?;
+    }
+    Ok(trace)
+}
+
+// How far a client and its server have come.
+#[derive(Clone, Copy)]
+struct Side {
+    board: Pos,
+    runs: bool,
+    left: u8,
+    last: Pos,
+}
+
+// How long the log is, and how far each client has come with its server.
+#[derive(Clone, Copy)]
+struct Course {
+    len: Pos,
+    one: Side,
+    two: Side,
+}
+
+const AT_FIRST: Side = Side {
+    board: 0,
+    runs: false,
+    left: 3,
+    last: 0,
+};
+
+fn side_of(course: Course, number: u8) -> Option<Side> {
+    match number {
+        1 => Some(course.one),
+        2 => Some(course.two),
+        _ => None,
+    }
+}
+
+fn with_side(course: Course, number: u8, side: Side) -> Course {
+    if number == 1 {
+        Course {
+            one: side,
+            ..course
+        }
+    } else {
+        Course {
+            two: side,
+            ..course
+        }
+    }
+}
+
+// How much of a group stands at the end of this many entries.
+fn part_of(len: Pos, shape: Shape) -> Pos {
+    let group = Pos::from(shape.group);
+    if group == 0 { 0 } else { len % group }
+}
+
+fn begun(side: Side) -> Option<Side> {
+    if side.runs || side.left == 0 || side.board < side.last {
+        return None;
+    }
+    Some(Side { runs: true, ..side })
+}
+
+fn appended(side: Side, at: Pos) -> Option<Side> {
+    if !side.runs || side.left == 0 {
+        return None;
+    }
+    Some(Side {
+        runs: false,
+        left: side.left - 1,
+        last: at,
+        ..side
+    })
+}
+
+fn published(side: Side, upto: Pos, len: Pos, shape: Shape) -> Option<Side> {
+    if upto <= side.board || len < upto || part_of(upto, shape) != 0 {
+        return None;
+    }
+    Some(Side {
+        board: upto,
+        ..side
+    })
+}
+
+// The length once the last group is whole. None where it is so already.
+fn padded(len: Pos, shape: Shape) -> Option<Pos> {
+    let part = part_of(len, shape);
+    if part == 0 {
+        return None;
+    }
+    let lack = Pos::from(shape.group).checked_sub(part)?;
+    len.checked_add(lack)
+}
+
+// Where an event leads. None where it may not happen, or doesn't come in these runs.
+fn after(course: Course, event: Event, shape: Shape) -> Option<Course> {
+    match event {
+        Event::Begin { client } => {
+            let side = begun(side_of(course, client)?)?;
+            Some(with_side(course, client, side))
+        }
+        Event::Append { client } => {
+            if course.len >= shape.cap {
+                return None;
+            }
+            let len = course.len + 1;
+            let side = appended(side_of(course, client)?, len)?;
+            Some(with_side(Course { len, ..course }, client, side))
+        }
+        Event::Publish { server, upto } => {
+            let side = published(side_of(course, server)?, upto, course.len, shape)?;
+            Some(with_side(course, server, side))
+        }
+        Event::Pad { server } => {
+            let _ = side_of(course, server)?;
+            let len = padded(course.len, shape)?;
+            Some(Course { len, ..course })
+        }
+        Event::End { .. } | Event::Refuse { .. } | Event::Stop { .. } => None,
+    }
+}
+
+// Where a trace leads from an empty log. None where one of its events may not happen.
+fn course_of(shape: Shape, trace: &[Event]) -> Option<Course> {
+    let mut course = Course {
+        len: 0,
+        one: AT_FIRST,
+        two: AT_FIRST,
+    };
+    for event in trace {
+        course = after(course, *event, shape)?;
+    }
+    Some(course)
+}
+
+fn count_of(trace: &[Event], wanted: Event) -> usize {
+    trace.iter().filter(|event| **event == wanted).count()
+}
+
+#[test]
+fn two_threads_run_their_clients(rt: HostRuntime) -> Result<(), Fail> {
+    let trace = run_beside(&rt, rt.alloc())?;
+    for client in [1, 2] {
+        assert_eq!(rt; count_of(trace.as_slice(), Event::Begin { client }), 3);
+        assert_eq!(rt; count_of(trace.as_slice(), Event::Append { client }), 3);
+    }
+    let course = course_of(SHAPE, trace.as_slice()).expect(&rt, "a legal trace");
+    assert_eq!(rt; course.len, 6);
+    for side in [course.one, course.two] {
+        assert!(rt; side.left == 0 && !side.runs && side.board >= side.last);
+    }
+    Ok(())
+}
+
+#[test]
+fn a_trace_out_of_order_is_not_legal(rt: HostRuntime) -> Result<(), Fail> {
+    let begin = Event::Begin { client: 1 };
+    let append = Event::Append { client: 1 };
+    let publish = Event::Publish { server: 1, upto: 1 };
+    assert!(rt; course_of(SHAPE, &[begin, append, publish, begin]).is_some());
+    assert!(rt; course_of(SHAPE, &[begin, begin]).is_none());
+    assert!(rt; course_of(SHAPE, &[append]).is_none());
+    assert!(rt; course_of(SHAPE, &[begin, append, begin]).is_none());
+    assert!(rt; course_of(SHAPE, &[begin, publish]).is_none());
+    assert!(rt; course_of(SHAPE, &[begin, append, publish, publish]).is_none());
+    assert!(rt; course_of(SHAPE, &[Event::Pad { server: 1 }]).is_none());
+    Ok(())
+}
