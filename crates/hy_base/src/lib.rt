@@ -27,7 +27,7 @@ pub use record::{
     ValueError, Verdict, Verdicts, Write, Writes,
 };
 pub use report::{Answer, Answers, Outcome, Pair, Pairs, Replies, Reply, Results, ServerRows};
-pub use shared::Shared;
+pub use shared::{Shared, share_all};
 pub use steps::Steps;
 pub use workload::{
     ArmedStop, Client, Clients, Command, Commands, Event, Home, Phase, Program, Programs, Script,

@@ -1,5 +1,5 @@
 //! A value with several owners, which contracts see as the value.
-ghost use Rattle.std.specs.Prelude.{◌≡◌, IfOk};
+ghost use Rattle.std.specs.Prelude.{◌≡◌, IfOk, replicate};
 
 use std::alloc::{AllocError, Global};
 use std::marker::Model;
@@ -27,6 +27,30 @@ impl<T: Drop> Shared<T> {
         let value = Arc::new(alloc, value)?;
         Ok(Shared { value })
     }
+
+    /// So many more owners of the same value. `AllocError` where memory is wanting, or it has too many owners.
+    pub fn share_times(&self, alloc: Global, count: usize) -> Result<Vec<Shared<T>>, AllocError>
+        ensures { IfOk result (λ shares. shares.items ≡ replicate count self.now) }
+    {
+        let mut shares = Vec::new(alloc);
+        for _share in 0..count {
+            shares.reserve(1)?;
+            shares.push_reserved(self.share()?);
+        }
+        Ok(shares)
+    }
+}
+
+/// One more owner of each of these values. `AllocError` where memory is wanting, or one has too many owners.
+pub fn share_all<T: Drop>(alloc: Global, values: &[Shared<T>]) -> Result<Vec<Shared<T>>, AllocError>
+    ensures { IfOk result (λ shares. shares.items ≡ values.now) }
+{
+    let mut shares = Vec::new(alloc);
+    for value in values {
+        shares.reserve(1)?;
+        shares.push_reserved(value.share()?);
+    }
+    Ok(shares)
 }
 
 impl<T> Shared<T> {

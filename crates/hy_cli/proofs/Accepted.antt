@@ -20,7 +20,7 @@ use Rattle.clap.proofs.WalkLemmas.{both}
 use Rattle.hy_base.specs.Spelling.{Text}
 use Rattle.hy_cli.specs.CommandLine.{OptionKind, flag, number, CliOption}
 use Rattle.hy_cli.specs.Matches.{is_accepted, value_accepted}
-use Rattle.hy_cli.proofs.Walks.{IsKnown, at_no_row, built_rule, built_rules, bytes_same, flag_opt, leaf_shape, number_opt, opt_by_name, true_and}
+use Rattle.hy_cli.proofs.Walks.{IsKnownOption, at_no_row, built_rule, built_rules, bytes_same, flag_opt, leaf_shape, number_opt, opt_by_name, true_and}
 use Rattle.hy_cli.proofs.Levels.{EachKnown}
 
 -- ---- what an empty list of faults says
@@ -118,11 +118,11 @@ value_test v = each_kind (λ o. value_passes (built_rule o) v ≡ value_accepted
 -- ---- the walk of a command
 
 -- a rule that a search finds is that of an option
-found_rule : (p : Rule → Bool) (all some : List CliOption) → EachKnown all some → (a : Rule) → find p (built_rules some) ≡ Some a → (o : CliOption) × (a ≡ built_rule o) × IsKnown all o
+found_rule : (p : Rule → Bool) (all some : List CliOption) → EachKnown all some → (a : Rule) → find p (built_rules some) ≡ Some a → (o : CliOption) × (a ≡ built_rule o) × IsKnownOption all o
 found_rule p all [] each a e = cc e
 found_rule p all (o ∷ rest) each a e = go (p (built_rule o)) refl (found_rule p all rest each.1)
   where
-    go : (b : Bool) → p (built_rule o) ≡ b → ((a : Rule) → find p (built_rules rest) ≡ Some a → (o : CliOption) × (a ≡ built_rule o) × IsKnown all o) → (o : CliOption) × (a ≡ built_rule o) × IsKnown all o
+    go : (b : Bool) → p (built_rule o) ≡ b → ((a : Rule) → find p (built_rules rest) ≡ Some a → (o : CliOption) × (a ≡ built_rule o) × IsKnownOption all o) → (o : CliOption) × (a ≡ built_rule o) × IsKnownOption all o
     go true here more = (o, sym (let h : Some (built_rule o) ≡ Some a = rw here at e in cc), each.0)
     go false here more = more a (rw here at e)
 
@@ -152,7 +152,7 @@ module _ (options : List CliOption) (each : EachKnown options options) where
       go None is = rw is ok
       go (Some p) is = rw is (by_id_ok (λ a. bytes_eq a.id p.0) (arg_by_id c p.0) p.1 h.rows refl (rw is at e) ok)
 
-  react_ok : (o : CliOption) (vs : List Text) (h : Held) → IsKnown options o → react_fault c false (built_rule o) vs h ≡ [] → RowsOk options h.rows → RowsOk options (reacted c (built_rule o) vs h).rows
+  react_ok : (o : CliOption) (vs : List Text) (h : Held) → IsKnownOption options o → react_fault c false (built_rule o) vs h ≡ [] → RowsOk options h.rows → RowsOk options (reacted c (built_rule o) vs h).rows
   react_ok o vs h known e ok =
       let p = or_nil (settle_fault c false h) _ e in
       use_ok options o vs (settled c h).rows known.by_name p.1 (settle_ok h p.0 ok)
@@ -183,7 +183,7 @@ module _ (options : List CliOption) (each : EachKnown options options) where
   long_ok : (waiting : Waiting) (word name : Text) (v : Option Text) (h : Held) → long_fault c false (arg_by_long c name) v h ≡ [] → HeldOk h → MetOk (long_word c waiting word name v h)
   long_ok waiting word name v h e ok = go (arg_by_long c name) refl
     where
-      with_rule_of : (o : CliOption) (takes : Bool) (v : Option Text) → IsKnown options o → takes_values (built_rule o) ≡ takes → long_fault c false (Some (built_rule o)) v h ≡ []
+      with_rule_of : (o : CliOption) (takes : Bool) (v : Option Text) → IsKnownOption options o → takes_values (built_rule o) ≡ takes → long_fault c false (Some (built_rule o)) v h ≡ []
           → MetOk (after_flag c waiting word (long_met c (Some (built_rule o)) v h).0 (long_met c (Some (built_rule o)) v h).1)
       with_rule_of o true (Some x) known takes f = rw takes ((ok.0, react_ok o (x ∷ []) h known (rw takes at f) ok.1), tt)
       with_rule_of o true None known takes f = rw takes ((ok.0, settle_ok h (rw takes at f) ok.1), tt)

@@ -8,21 +8,21 @@ use Rattle.clap.specs.Takes.{default_passes, level_passes, settle_passes, is_giv
 use Rattle.clap.proofs.WalkLemmas.{both}
 use Rattle.hy_base.specs.Spelling.{Text}
 use Rattle.hy_cli.specs.CommandLine.{CliOption, Given, given_all, has_needed, is_given, option_named, reads, spelled}
-use Rattle.hy_cli.proofs.Walks.{AreRight, IsKnown, Stands, built_rules, bytes_same, leaf_shape, read_on, row_for, rows_for, true_and}
+use Rattle.hy_cli.proofs.Walks.{AreRight, IsKnownOption, WalkStands, built_rules, bytes_same, leaf_shape, read_on, row_for, rows_for, true_and}
 use Rattle.hy_cli.proofs.Matches.{any_found, default_at, defaults_found, given_row, or_found, row_at}
 
 abbrev pub EachKnown : List CliOption → List CliOption → Type 0
 EachKnown all [] = Unit {0}
-EachKnown all (o ∷ rest) = IsKnown all o × EachKnown all rest
+EachKnown all (o ∷ rest) = IsKnownOption all o × EachKnown all rest
 
-known_from : (all some : List CliOption) → EachKnown all some → (w : Text) (o : CliOption) → option_named some w ≡ Some o → (w ≡ spelled o.name) × IsKnown all o
+known_from : (all some : List CliOption) → EachKnown all some → (w : Text) (o : CliOption) → option_named some w ≡ Some o → (w ≡ spelled o.name) × IsKnownOption all o
 known_from all [] each w o e = cc e
 known_from all (x ∷ rest) each w o e = go (bytes_eq (spelled x.name) w) refl (known_from all rest each.1)
   where
-    go : (b : Bool) → bytes_eq (spelled x.name) w ≡ b → ((w : Text) (o : CliOption) → option_named rest w ≡ Some o → (w ≡ spelled o.name) × IsKnown all o) → (w ≡ spelled o.name) × IsKnown all o
+    go : (b : Bool) → bytes_eq (spelled x.name) w ≡ b → ((w : Text) (o : CliOption) → option_named rest w ≡ Some o → (w ≡ spelled o.name) × IsKnownOption all o) → (w ≡ spelled o.name) × IsKnownOption all o
     go true here more =
         let same : x ≡ o = cc (rw here at e) in
-        subst (λ (y : CliOption). (w ≡ spelled y.name) × IsKnown all y) same (sym (bytes_same (spelled x.name) w here), each.0)
+        subst (λ (y : CliOption). (w ≡ spelled y.name) × IsKnownOption all y) same (sym (bytes_same (spelled x.name) w here), each.0)
     go false here more = more w o (rw here at e)
 
 -- what a table of options has to pass, each by computation
@@ -60,7 +60,7 @@ pub leaf_takes : (command : Text) (options : List CliOption) → IsTable options
     → (level_passes (leaf_shape command options) [] nothing_held words false ≡ true) × (rows_after (built_rules options) [] words ≡ rows_of_all options g) × AreRight options g
 leaf_takes command options table words g e = go (reads options [] words) refl
   where
-    start : Stands options [] [] None
+    start : WalkStands options [] [] None
     start = record { right = tt; settles = refl; settled = refl }
 
     go : (r : Option Given) → reads options [] words ≡ r

@@ -8,3 +8,4 @@ pub mod Accepted
 pub mod Refusals
 pub mod Parsed
 mod Rows
+pub mod Building

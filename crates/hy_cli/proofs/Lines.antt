@@ -116,13 +116,13 @@ takes_command program name options enters rest g e =
 -- ---- the table of commands
 
 -- the matches of a command mean what was given
-pub record IsRow (c : CliCommand) : Type 0 where
+pub record IsTableRow (c : CliCommand) : Type 0 where
   pub enters : Enters c.name c.options
   pub means : (g : Given) → AreRight c.options g → c.line (choices_found (rows_of_all c.options g)) ≡ c.line (choices_given g)
 
-abbrev AreRows : List CliCommand → Type 0
-AreRows [] = Unit {0}
-AreRows (c ∷ cs) = IsRow c × AreRows cs
+abbrev AreTableRows : List CliCommand → Type 0
+AreTableRows [] = Unit {0}
+AreTableRows (c ∷ cs) = IsTableRow c × AreTableRows cs
 
 run_means : (g : Given) → AreRight run_command.options g → run_command.line (choices_found (rows_of_all run_command.options g)) ≡ run_command.line (choices_given g)
 run_means g right =
@@ -143,7 +143,7 @@ load_means g right =
     let threads = number_same load_command.options (codes "threads") 1 16 2 threads_option g rows right refl refl refl refl in
     λ i. Load (seed i) (size i) (threads i)
 
-all_rows : AreRows commands
+all_rows : AreTableRows commands
 all_rows = (
   record { enters = run_enters; means = run_means },
   (
@@ -155,18 +155,18 @@ all_rows = (
   ),
 )
 
-found_row : (cs : List CliCommand) → AreRows cs → (word : Text) (c : CliCommand) → find (λ c. bytes_eq c.name word) cs ≡ Some c → (c.name ≡ word) × IsRow c
+found_row : (cs : List CliCommand) → AreTableRows cs → (word : Text) (c : CliCommand) → find (λ c. bytes_eq c.name word) cs ≡ Some c → (c.name ≡ word) × IsTableRow c
 found_row [] rows word c e = cc e
 found_row (x ∷ cs) rows word c e = go (bytes_eq x.name word) refl (found_row cs rows.1 word c)
   where
-    go : (b : Bool) → bytes_eq x.name word ≡ b → (find (λ c. bytes_eq c.name word) cs ≡ Some c → (c.name ≡ word) × IsRow c) → (c.name ≡ word) × IsRow c
+    go : (b : Bool) → bytes_eq x.name word ≡ b → (find (λ c. bytes_eq c.name word) cs ≡ Some c → (c.name ≡ word) × IsTableRow c) → (c.name ≡ word) × IsTableRow c
     go true here more =
         let same : x ≡ c = cc (rw here at e) in
-        subst (λ (y : CliCommand). (y.name ≡ word) × IsRow y) same (bytes_same x.name word here, rows.0)
+        subst (λ (y : CliCommand). (y.name ≡ word) × IsTableRow y) same (bytes_same x.name word here, rows.0)
     go false here more = more (rw here at e)
 
 -- a command that a word names has that name, and is a row of the table
-pub named_row : (word : Text) (c : CliCommand) → command_named word ≡ Some c → (c.name ≡ word) × IsRow c
+pub named_row : (word : Text) (c : CliCommand) → command_named word ≡ Some c → (c.name ≡ word) × IsTableRow c
 named_row word c e = found_row commands all_rows word c e
 
 none_answers : (cs : List CliCommand) (word : Text) → find (λ c. bytes_eq c.name word) cs ≡ None → find (answers_to word) (map (λ c. (c.name, [])) cs) ≡ None
@@ -188,7 +188,7 @@ abbrev Obeys : Text → Text → List Text → Line → Type 0
 Obeys program name rest l = (takes hyder_app (program ∷ (name ∷ rest)) ≡ true) × (meant (subcommand_of hyder_app (program ∷ (name ∷ rest))) ≡ Some l)
 
 -- from what a command was given to what its matches mean
-command_obeyed : (program : Text) (c : CliCommand) (rest : List Text) (l : Line) → IsRow c → command_named c.name ≡ Some c → command_line c rest ≡ Some l → Obeys program c.name rest l
+command_obeyed : (program : Text) (c : CliCommand) (rest : List Text) (l : Line) → IsTableRow c → command_named c.name ≡ Some c → command_line c rest ≡ Some l → Obeys program c.name rest l
 command_obeyed program c rest l row known e = go (given_all c.options rest) refl
   where
     go : (given : Option Given) → given_all c.options rest ≡ given → Obeys program c.name rest l

@@ -141,7 +141,7 @@ flag_passes name needed g new =
 -- ---- the walk over the words of one command
 
 -- what the lemmas need to know of an option of the command
-pub record IsKnown (options : List CliOption) (o : CliOption) : Type 0 where
+pub record IsKnownOption (options : List CliOption) (o : CliOption) : Type 0 where
   pub long : long_of (spelled o.name) ≡ Some (o.name, None)
   pub dashes : bytes_eq (spelled o.name) (45 ∷ 45 ∷ []) ≡ false
   pub by_long : arg_by_long (built_rules options) o.name ≡ Some (built_rule o)
@@ -186,7 +186,7 @@ right_more options [] p h last = (last, tt)
 right_more options (q ∷ g) p h last = (h.0, right_more options g p h.1 last)
 
 -- the walk stands between two options, and the rows are those of the options given
-pub record Stands (options : List CliOption) (g : Given) (rows : List Row) (pending : Option (Text × List Text)) : Type 0 where
+pub record WalkStands (options : List CliOption) (g : Given) (rows : List Row) (pending : Option (Text × List Text)) : Type 0 where
   pub right : AreRight options g
   pub settles : settle_passes (built_rules options) false (record { rows = rows; pending = pending; skip = 0 }) ≡ true
   pub settled : settled_rows (built_rules options) pending rows ≡ rows_for g
@@ -199,13 +199,13 @@ module _ (command : Text) (options : List CliOption) where
   s = leaf_shape command options
 
   -- a flag
-  flag_walks : (name : Text) (needed : Bool) (g : Given) (rows : List Row) (pending : Option (Text × List Text)) → IsKnown options (flag_opt name needed) → Stands options g rows pending
+  flag_walks : (name : Text) (needed : Bool) (g : Given) (rows : List Row) (pending : Option (Text × List Text)) → IsKnownOption options (flag_opt name needed) → WalkStands options g rows pending
       → is_given name g ≡ false → walked c [] (at_word rows pending) (spelled name) ≡ at_word (rows_for (g ++ (name, codes "true") ∷ [])) None
   unfolding walked
   flag_walks name needed g rows pending known stands new =
       rw (known.dashes, known.long, known.by_long, stands.settled, used_flag name needed g new) refl
 
-  flag_turn : (name : Text) (needed : Bool) (g : Given) (rows : List Row) (pending : Option (Text × List Text)) (rest : List Text) → IsKnown options (flag_opt name needed) → Stands options g rows pending
+  flag_turn : (name : Text) (needed : Bool) (g : Given) (rows : List Row) (pending : Option (Text × List Text)) (rest : List Text) → IsKnownOption options (flag_opt name needed) → WalkStands options g rows pending
       → is_given name g ≡ false → walk_passes s [] (at_word (rows_for (g ++ (name, codes "true") ∷ [])) None) rest ≡ true
       → walk_passes s [] (at_word rows pending) (spelled name ∷ rest) ≡ true
   unfolding walk_passes
@@ -214,8 +214,8 @@ module _ (command : Text) (options : List CliOption) where
       let absent : has_row name (rows_for g) ≡ false = has_row_given name g ∙ new in
       rw (known.dashes, known.long, known.by_long, moves, stands.settles, stands.settled, absent) after
 
-  number_walks : (low high : ℕ) (name : Text) (needed : Bool) (v : Text) (g : Given) (rows : List Row) (pending : Option (Text × List Text)) → IsKnown options (number_opt low high name needed)
-      → Stands options g rows pending → IsNumeral 10 v
+  number_walks : (low high : ℕ) (name : Text) (needed : Bool) (v : Text) (g : Given) (rows : List Row) (pending : Option (Text × List Text)) → IsKnownOption options (number_opt low high name needed)
+      → WalkStands options g rows pending → IsNumeral 10 v
       → walked c [] (walked c [] (at_word rows pending) (spelled name)) v ≡ at_word (rows_for g) (Some (name, v ∷ []))
   unfolding walked
   number_walks low high name needed v g rows pending known stands right =
@@ -223,7 +223,7 @@ module _ (command : Text) (options : List CliOption) where
       rw (known.dashes, known.long, known.by_long, stands.settled, plain.2, plain.0, plain.1, known.by_id, bytes_refl name) refl
 
   number_turn : (low high : ℕ) (name : Text) (needed : Bool) (v : Text) (g : Given) (rows : List Row) (pending : Option (Text × List Text)) (rest : List Text)
-      → IsKnown options (number_opt low high name needed) → Stands options g rows pending → IsNumeral 10 v
+      → IsKnownOption options (number_opt low high name needed) → WalkStands options g rows pending → IsNumeral 10 v
       → walk_passes s [] (at_word (rows_for g) (Some (name, v ∷ []))) rest ≡ true
       → walk_passes s [] (at_word rows pending) (spelled name ∷ (v ∷ rest)) ≡ true
   unfolding walk_passes walked
@@ -231,8 +231,8 @@ module _ (command : Text) (options : List CliOption) where
       let plain = starts_with_digit v right in
       rw (known.dashes, known.long, known.by_long, stands.settles, stands.settled, plain.2, plain.0, plain.1, known.by_id, bytes_refl name) after
 
-  flag_stands : (name : Text) (needed : Bool) (g : Given) (rows : List Row) (pending : Option (Text × List Text)) → IsKnown options (flag_opt name needed) → Stands options g rows pending
-      → Stands options (g ++ (name, codes "true") ∷ []) (rows_for (g ++ (name, codes "true") ∷ [])) None
+  flag_stands : (name : Text) (needed : Bool) (g : Given) (rows : List Row) (pending : Option (Text × List Text)) → IsKnownOption options (flag_opt name needed) → WalkStands options g rows pending
+      → WalkStands options (g ++ (name, codes "true") ∷ []) (rows_for (g ++ (name, codes "true") ∷ [])) None
   flag_stands name needed g rows pending known stands = record {
     right = right_more options g (name, codes "true") stands.right (rw known.by_name refl);
     settles = refl;
@@ -240,8 +240,8 @@ module _ (command : Text) (options : List CliOption) where
   }
 
   number_stands : (low high : ℕ) (name : Text) (needed : Bool) (v : Text) (g : Given) (rows : List Row) (pending : Option (Text × List Text))
-      → IsKnown options (number_opt low high name needed) → Stands options g rows pending → is_given name g ≡ false → is_number_in low high v ≡ true
-      → Stands options (g ++ (name, v) ∷ []) (rows_for g) (Some (name, v ∷ []))
+      → IsKnownOption options (number_opt low high name needed) → WalkStands options g rows pending → is_given name g ≡ false → is_number_in low high v ≡ true
+      → WalkStands options (g ++ (name, v) ∷ []) (rows_for g) (Some (name, v ∷ []))
   number_stands low high name needed v g rows pending known stands new right = record {
     right = right_more options g (name, v) stands.right (rw known.by_name right);
     settles = rw known.by_id (number_passes low high name needed v g new right);
@@ -254,15 +254,15 @@ module _ (command : Text) (options : List CliOption) where
     pub rows_then : List Row
     pub pending_then : Option (Text × List Text)
     pub ends : fold (walked c []) (at_word rows pending) words ≡ at_word rows_then pending_then
-    pub stands : Stands options g rows_then pending_then
+    pub stands : WalkStands options g rows_then pending_then
 
-  flag_case : (o : CliOption) (g last : Given) (rows : List Row) (pending : Option (Text × List Text)) (rest : List Text) → o.kind ≡ flag → IsKnown options o → Stands options g rows pending
+  flag_case : (o : CliOption) (g last : Given) (rows : List Row) (pending : Option (Text × List Text)) (rest : List Text) → o.kind ≡ flag → IsKnownOption options o → WalkStands options g rows pending
       → is_given o.name g ≡ false
-      → (Stands options (g ++ (o.name, codes "true") ∷ []) (rows_for (g ++ (o.name, codes "true") ∷ [])) None
+      → (WalkStands options (g ++ (o.name, codes "true") ∷ []) (rows_for (g ++ (o.name, codes "true") ∷ [])) None
       → Walks last (rows_for (g ++ (o.name, codes "true") ∷ [])) None rest)
       → Walks last rows pending (spelled o.name ∷ rest)
   flag_case o g last rows pending rest is known stands new more =
-      let same : IsKnown options (flag_opt o.name o.needed) = subst (IsKnown options) (λ i. record o { kind = is i }) known in
+      let same : IsKnownOption options (flag_opt o.name o.needed) = subst (IsKnownOption options) (λ i. record o { kind = is i }) known in
       let next = more (flag_stands o.name o.needed g rows pending same stands) in
       record {
         passes = flag_turn o.name o.needed g rows pending rest same stands new next.passes;
@@ -272,12 +272,12 @@ module _ (command : Text) (options : List CliOption) where
         stands = next.stands;
       }
 
-  number_case : (o : CliOption) (low high : ℕ) (v : Text) (g last : Given) (rows : List Row) (pending : Option (Text × List Text)) (rest : List Text) → o.kind ≡ number low high → IsKnown options o
-      → Stands options g rows pending → is_given o.name g ≡ false → is_number_in low high v ≡ true
-      → (Stands options (g ++ (o.name, v) ∷ []) (rows_for g) (Some (o.name, v ∷ [])) → Walks last (rows_for g) (Some (o.name, v ∷ [])) rest)
+  number_case : (o : CliOption) (low high : ℕ) (v : Text) (g last : Given) (rows : List Row) (pending : Option (Text × List Text)) (rest : List Text) → o.kind ≡ number low high → IsKnownOption options o
+      → WalkStands options g rows pending → is_given o.name g ≡ false → is_number_in low high v ≡ true
+      → (WalkStands options (g ++ (o.name, v) ∷ []) (rows_for g) (Some (o.name, v ∷ [])) → Walks last (rows_for g) (Some (o.name, v ∷ [])) rest)
       → Walks last rows pending (spelled o.name ∷ (v ∷ rest))
   number_case o low high v g last rows pending rest is known stands new right more =
-      let same : IsKnown options (number_opt low high o.name o.needed) = subst (IsKnown options) (λ i. record o { kind = is i }) known in
+      let same : IsKnownOption options (number_opt low high o.name o.needed) = subst (IsKnownOption options) (λ i. record o { kind = is i }) known in
       let next = more (number_stands low high o.name o.needed v g rows pending same stands new right) in
       let decimal = (number_in low high v right).numeral in
       record {
@@ -290,7 +290,7 @@ module _ (command : Text) (options : List CliOption) where
 
   -- each word that names an option names one that the lemmas know
   abbrev pub AllKnown : Type 0
-  AllKnown = (w : Text) (o : CliOption) → option_named options w ≡ Some o → (w ≡ spelled o.name) × IsKnown options o
+  AllKnown = (w : Text) (o : CliOption) → option_named options w ≡ Some o → (w ≡ spelled o.name) × IsKnownOption options o
 
   -- what a reading of one option asks
   flag_new : (o : CliOption) (g last : Given) (more : Given → Option Given) → option_and_then more (given_flag o g) ≡ Some last
@@ -311,7 +311,7 @@ module _ (command : Text) (options : List CliOption) where
       go false false h k = cc (rw (h, k) at e)
       go false true h k = (h, k, rw (h, k) at e)
 
-  no_words : (g last : Given) (rows : List Row) (pending : Option (Text × List Text)) → Stands options g rows pending → Some g ≡ Some last → Walks last rows pending []
+  no_words : (g last : Given) (rows : List Row) (pending : Option (Text × List Text)) → WalkStands options g rows pending → Some g ≡ Some last → Walks last rows pending []
   unfolding walk_passes
   no_words g last rows pending stands e =
       let same : g ≡ last = cc in
@@ -320,14 +320,14 @@ module _ (command : Text) (options : List CliOption) where
         rows_then = rows;
         pending_then = pending;
         ends = refl;
-        stands = subst (λ (x : Given). Stands options x rows pending) same stands;
+        stands = subst (λ (x : Given). WalkStands options x rows pending) same stands;
       }
 
-  one_read : (known : AllKnown) (w : Text) (g last : Given) (rows : List Row) (pending : Option (Text × List Text)) → Stands options g rows pending
+  one_read : (known : AllKnown) (w : Text) (g last : Given) (rows : List Row) (pending : Option (Text × List Text)) → WalkStands options g rows pending
       → met (option_named options w) None g (λ g. Some g) (λ g. None) ≡ Some last → Walks last rows pending (w ∷ [])
   one_read known w g last rows pending stands e = go (option_named options w) refl
     where
-      by_kind : (o : CliOption) (k : OptionKind) → o.kind ≡ k → IsKnown options o → met_as k o None g (λ g. Some g) (λ g. None) ≡ Some last → Walks last rows pending (spelled o.name ∷ [])
+      by_kind : (o : CliOption) (k : OptionKind) → o.kind ≡ k → IsKnownOption options o → met_as k o None g (λ g. Some g) (λ g. None) ≡ Some last → Walks last rows pending (spelled o.name ∷ [])
       by_kind o flag is k h =
           let new = flag_new o g last (λ g. Some g) h in
           flag_case o g last rows pending [] is k stands new.0 (λ next. no_words _ last _ None next new.1)
@@ -341,13 +341,13 @@ module _ (command : Text) (options : List CliOption) where
 
   -- reading on from any state
   abbrev ReadsOn : Given → List Text → Type 0
-  ReadsOn last words = (g : Given) (rows : List Row) (pending : Option (Text × List Text)) → Stands options g rows pending → reads options g words ≡ Some last → Walks last rows pending words
+  ReadsOn last words = (g : Given) (rows : List Row) (pending : Option (Text × List Text)) → WalkStands options g rows pending → reads options g words ≡ Some last → Walks last rows pending words
 
-  two_read : (known : AllKnown) (w v : Text) (rest : List Text) (g last : Given) (rows : List Row) (pending : Option (Text × List Text)) → Stands options g rows pending
+  two_read : (known : AllKnown) (w v : Text) (rest : List Text) (g last : Given) (rows : List Row) (pending : Option (Text × List Text)) → WalkStands options g rows pending
       → ReadsOn last (v ∷ rest) → ReadsOn last rest → reads options g (w ∷ (v ∷ rest)) ≡ Some last → Walks last rows pending (w ∷ (v ∷ rest))
   two_read known w v rest g last rows pending stands flagged valued e = go (option_named options w) refl
     where
-      by_kind : (o : CliOption) (k : OptionKind) → o.kind ≡ k → IsKnown options o → met_as k o (Some v) g (λ g. reads options g (v ∷ rest)) (λ g. reads options g rest) ≡ Some last
+      by_kind : (o : CliOption) (k : OptionKind) → o.kind ≡ k → IsKnownOption options o → met_as k o (Some v) g (λ g. reads options g (v ∷ rest)) (λ g. reads options g rest) ≡ Some last
           → Walks last rows pending (spelled o.name ∷ (v ∷ rest))
       by_kind o flag is k h =
           let new = flag_new o g last (λ g. reads options g (v ∷ rest)) h in

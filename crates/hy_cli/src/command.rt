@@ -1,7 +1,7 @@
 //! What `clap` is told of the program.
 ghost use Rattle.std.specs.Prelude.{◌≡◌, IfOk, false};
-ghost use Rattle.hy_cli.specs.CommandLine.{flag, load_command, run_command, seed_option, sim_command, size_option, threads_option};
-ghost use Rattle.hy_cli.specs.Matches.{app_for, hyder_app, rule_for};
+ghost use Rattle.hy_cli.specs.CommandLine.{CliCommand, flag, load_command, run_command, seed_option, sim_command, size_option, threads_option};
+ghost use Rattle.hy_cli.specs.Matches.{app_for, hyder_app, program, rule_for, with_command};
 ghost use Rattle.clap.specs.Words.{app_of, rule_of};
 ghost use Rattle.clap.specs.declared.builder.command.Command.TheViews.{out-Command};
 
@@ -71,17 +71,33 @@ fn load_command<'a>(alloc: Global) -> Result<Command<'a>, AllocError>
         .arg(threads_arg(alloc))
 }
 
-/// The program with its commands. It has no help of its own: a word for help is a word like others.
-pub(crate) fn hyder_command<'a>(alloc: Global) -> Result<Command<'a>, AllocError>
-    ensures { IfOk result (λ c. app_of c ≡ hyder_app) }
+// The program before its commands. It has no help of its own: a word for help is a word like others.
+fn program<'a>(alloc: Global) -> Command<'a>
+    ensures { app_of result ≡ program }
 {
     Command::new(alloc, "hyder")
         .disable_help_flag(true)
         .disable_help_subcommand(true)
         .subcommand_required(true)
-        .subcommand(run_command(alloc)?)?
-        .subcommand(sim_command(alloc)?)?
+}
+
+// The program with a further command, if there was memory to make it.
+fn with_command<'a>(
+    app: Command<'a>,
+    command: Result<Command<'a>, AllocError>,
+) -> Result<Command<'a>, AllocError>
+    ensures { IfOk result (λ r. (added : CliCommand) → IfOk command.entry (λ c. (app_of c ≡ app_for added.name added.options) × ((out-Command c).has_globals ≡ false)) → app_of r ≡ with_command (app_of app.entry) added) }
+{
+    app.subcommand(command?)
+}
+
+/// The program with its commands.
+pub(crate) fn hyder_command<'a>(alloc: Global) -> Result<Command<'a>, AllocError>
+    ensures { IfOk result (λ c. app_of c ≡ hyder_app) }
+{
+    let app = with_command(program(alloc), run_command(alloc))?;
+    let app = with_command(app, sim_command(alloc))?
         .subcommand(Command::new(alloc, "recover"))?
-        .subcommand(Command::new(alloc, "check"))?
-        .subcommand(load_command(alloc)?)
+        .subcommand(Command::new(alloc, "check"))?;
+    with_command(app, load_command(alloc))
 }

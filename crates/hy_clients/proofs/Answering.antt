@@ -18,9 +18,9 @@ use Rattle.hy_clients.specs.declared.answered.Answered.{Answered}
 use Rattle.hy_clients.specs.Programs.{answers_given}
 
 -- these are the answers to the client's programs from this number on, by this log
-abbrev pub AreAnswered : Workload → List EntryKind → ℕ → ℕ → List Answered → Type 0
-AreAnswered script log c number [] = ⊤
-AreAnswered script log c number (t ∷ told) = (t.answers ≡ answers_given script log c number t.snap) × AreAnswered script log c (number + 1) told
+abbrev pub AnswersByLog : Workload → List EntryKind → ℕ → ℕ → List Answered → Type 0
+AnswersByLog script log c number [] = ⊤
+AnswersByLog script log c number (t ∷ told) = (t.answers ≡ answers_given script log c number t.snap) × AnswersByLog script log c (number + 1) told
 
 -- what was live at a snapshot stays as the log grows
 pub live_grows : (s : Shape) (log more : List EntryKind) (snap : ℕ) → snap ≤ length log → live s (log ++ more) snap ≡ live s log snap

@@ -29,7 +29,8 @@ use Rattle.hy_clients.specs.declared.answered.End.TheVariants.{Reading}
 use Rattle.hy_clients.specs.Passing.{IsRunPass, IsNextTurn, OpensStanding}
 use Rattle.hy_clients.specs.Programs.{EndsProgram, EndsAs, before}
 use Rattle.hy_clients.specs.Serving.{IsServedClient, AreLive, TakesEntry, Takes, EndsReading, IsOwnEnd, EndsBy, EndsServed}
-use Rattle.hy_clients.proofs.Turning.{prefix_length, prefix_take, take_prefix}
+use Rattle.hy_hist.proofs.Lists.{prefix_length}
+use Rattle.hy_clients.proofs.Turning.{prefix_take, take_prefix}
 use Rattle.hy_clients.proofs.Living.{live_on}
 use Rattle.hy_clients.proofs.Openings.{stood_before}
 use Rattle.hy_clients.proofs.Passes.{entry_is_own}

@@ -13,9 +13,8 @@ use Rattle.hy_hist.proofs.Lists.{prefix_trans}
 use Rattle.hy_hub.specs.declared.mark.Occurrence.{Occurrence}
 use Rattle.hy_hub.specs.Trace.{setting_in}
 use Rattle.hy_hub.specs.Hub.{IsHubHistory}
-use Rattle.hy_hub.specs.Calls.{IsIdle, OneTurn, OwnTurn}
+use Rattle.hy_hub.specs.Calls.{IsIdle}
 use Rattle.hy_hub.specs.Turns.{is_mark_of}
-use Rattle.hy_hub.proofs.Later.{not_empty}
 use Rattle.hy_base.proofs.NthLemmas.{nth_some}
 use Rattle.hy_clients.specs.declared.answered.Answered.{Answered}
 use Rattle.hy_clients.specs.Programs.{AreServed}
@@ -38,32 +37,6 @@ joined lock script pass one other idle seen first second =
       | inl e ↦ same_run lock script pass one idle e first
       | inr e ↦ same_run lock script pass other idle e second
     ]
-
-pub turn_grown : {all : ℕ} {old new : Known Occurrence} {does : List Occurrence → List Occurrence → Type 0} → OneTurn all old new does → IsPrefix old.seen new.seen
-turn_grown {all} {old} {new} {does} turn =
-    let p = turn.grown in
-    (p.0 ++ turn.added, sym (append_assoc old.seen p.0 turn.added) ∙ (ap (λ l. l ++ turn.added) p.1 ∙ sym turn.seen))
-
--- a pass of the run that took a turn
-pub run_on : (lock : Lock) (script : Workload) {all : ℕ} {old new : Known Occurrence} {does : List Occurrence → List Occurrence → Type 0} → IsIdle lock new → OneTurn all old new does → IsRunPass lock script old → IsRunPass lock script new
-run_on lock script {all} {old} {new} {does} idle turn run = record {
-  idle = idle;
-  told = turn.told;
-  setting_is = turn.setting (not_empty old.seen run.told) ∙ run.setting_is;
-}
-
--- the same for a call of several holds
-pub own_grown : {old new : Known Occurrence} {does : List Occurrence → List Occurrence → Type 0} → OwnTurn old new does → IsPrefix old.seen new.seen
-own_grown {old} {new} {does} turn =
-    let p = turn.grown in
-    (p.0 ++ (turn.own ++ turn.after), sym (append_assoc old.seen p.0 (turn.own ++ turn.after)) ∙ (ap (λ l. l ++ (turn.own ++ turn.after)) p.1 ∙ sym turn.seen))
-
-pub own_run_on : (lock : Lock) (script : Workload) {old new : Known Occurrence} {does : List Occurrence → List Occurrence → Type 0} → IsIdle lock new → OwnTurn old new does → IsRunPass lock script old → IsRunPass lock script new
-own_run_on lock script {old} {new} {does} idle turn run = record {
-  idle = idle;
-  told = turn.told;
-  setting_is = turn.setting (not_empty old.seen run.told) ∙ run.setting_is;
-}
 
 -- tasks with one more, the next in number
 pub numbered_more : (number : ℕ) (ts : List TaskView) (t : TaskView) → AreNumbered number ts → t.client ≡ number + length ts → AreNumbered number (ts ++ t ∷ [])

@@ -22,8 +22,8 @@ use Rattle.hy_base.proofs.NthLemmas.{left_of}
 use Rattle.hy_clients.specs.declared.answered.Answered.{Answered}
 use Rattle.hy_clients.specs.Programs.{ending_of_end, effects_on, has_left_entry, own_entry_of}
 use Rattle.hy_clients.proofs.Sessions.{nth_changed, is_running, same_number}
-use Rattle.hy_clients.proofs.Steady.{IsSteady}
-use Rattle.hy_clients.proofs.Progress.{IsAt, Goes, Works, IsTurn, closing, close_turn, begin_turn}
+use Rattle.hy_clients.proofs.Steady.{IsSteadyState}
+use Rattle.hy_clients.proofs.Progress.{StateIsAt, ProgramsGo, Works, IsTurn, closing, close_turn, begin_turn}
 
 -- ---- a program that runs, in the script's run
 
@@ -69,7 +69,7 @@ appended_idle (e ∷ es) len x = refl
 
 -- ---- the turns that end a program
 
-append_turn : (script : Workload) (c : ℕ) (list : List Occurrence) (k : ℕ) (s : State) (added : List EntryKind) (x : Session) (snap : ℕ) (turns : List (ℕ × Occurrence)) (told : List Answered) → IsAt script list k s → IsSteady s
+append_turn : (script : Workload) (c : ℕ) (list : List Occurrence) (k : ℕ) (s : State) (added : List EntryKind) (x : Session) (snap : ℕ) (turns : List (ℕ × Occurrence)) (told : List Answered) → StateIsAt script list k s → IsSteadyState s
     → nth s.sessions c ≡ Some x → x.phase ≡ Begun snap → snap ≤ length s.log → Works script c x.next list snap ((k, Happened (Append c) added) ∷ turns) told → IsTurn script c list s (Append c) added x turns told
 append_turn script c list k s added x snap turns told here steady at runs within works =
     let cl = closing script c x.next s snap list k (Happened (Append c) added) turns told here works in
@@ -81,7 +81,7 @@ append_turn script c list k s added x snap turns told here steady at runs within
     (λ t q e. ap (λ (a : Option ArmedStop). ended_by_append a s c) steady.calm ∙ (ended_here script s c x snap at runs (ByEntryAt (length s.log + 1))
     ∙ (λ i. record { client = c; number = x.next; snap = sym q i; ending = ending_of_end (sym e i) } ∷ [])))
 
-end_turn : (script : Workload) (c : ℕ) (list : List Occurrence) (k : ℕ) (s : State) (added : List EntryKind) (x : Session) (snap : ℕ) (turns : List (ℕ × Occurrence)) (told : List Answered) → IsAt script list k s → added ≡ []
+end_turn : (script : Workload) (c : ℕ) (list : List Occurrence) (k : ℕ) (s : State) (added : List EntryKind) (x : Session) (snap : ℕ) (turns : List (ℕ × Occurrence)) (told : List Answered) → StateIsAt script list k s → added ≡ []
     → nth s.sessions c ≡ Some x → x.phase ≡ Begun snap → snap ≤ length s.log → Works script c x.next list snap ((k, Happened (End c) added) ∷ turns) told → IsTurn script c list s (End c) added x turns told
 end_turn script c list k s added x snap turns told here none at runs within works =
     let cl = closing script c x.next s snap list k (Happened (End c) added) turns told here works in
@@ -89,7 +89,7 @@ end_turn script c list k s added x snap turns told here none at runs within work
     close_turn script c list s (End c) added x snap (Happened (End c) added) turns told (at_next_program x) cl (ap not read, none) (nth_changed at_next_program s.sessions c x at) refl refl within
     (λ t q e. ended_here script s c x snap at runs ByReading ∙ (λ i. record { client = c; number = x.next; snap = sym q i; ending = ending_of_end (sym e i) } ∷ []))
 
-refuse_turn : (script : Workload) (c : ℕ) (list : List Occurrence) (k : ℕ) (s : State) (added : List EntryKind) (x : Session) (snap : ℕ) (turns : List (ℕ × Occurrence)) (told : List Answered) → IsAt script list k s → added ≡ []
+refuse_turn : (script : Workload) (c : ℕ) (list : List Occurrence) (k : ℕ) (s : State) (added : List EntryKind) (x : Session) (snap : ℕ) (turns : List (ℕ × Occurrence)) (told : List Answered) → StateIsAt script list k s → added ≡ []
     → nth s.sessions c ≡ Some x → x.phase ≡ Begun snap → snap ≤ length s.log → Works script c x.next list snap ((k, Happened (Refuse c) added) ∷ turns) told → IsTurn script c list s (Refuse c) added x turns told
 refuse_turn script c list k s added x snap turns told here none at runs within works =
     let cl = closing script c x.next s snap list k (Happened (Refuse c) added) turns told here works in
@@ -100,33 +100,33 @@ refuse_turn script c list k s added x snap turns told here none at runs within w
 -- ---- any turn of the client
 
 module _ (script : Workload) (c : ℕ) (list : List Occurrence) (k : ℕ) (s : State) (added : List EntryKind) (x : Session) (turns : List (ℕ × Occurrence)) (told : List Answered)
-    (here : IsAt script list k s) (steady : IsSteady s) (at : nth s.sessions c ≡ Some x) (within : (snap : ℕ) → x.phase ≡ Begun snap → snap ≤ length s.log) where
-  abbrev Turns : Event → Type 0
-  Turns event = Moves (script_setting script) s event added (after (script_setting script) s event added) → Goes script c x.next list x.phase ((k, Happened event added) ∷ turns) told → IsTurn script c list s event added x turns told
+    (here : StateIsAt script list k s) (steady : IsSteadyState s) (at : nth s.sessions c ≡ Some x) (within : (snap : ℕ) → x.phase ≡ Begun snap → snap ≤ length s.log) where
+  abbrev IsOwnTurn : Event → Type 0
+  IsOwnTurn event = Moves (script_setting script) s event added (after (script_setting script) s event added) → ProgramsGo script c x.next list x.phase ((k, Happened event added) ∷ turns) told → IsTurn script c list s event added x turns told
 
-  works : (event : Event) → client_passes (script_setting script) s c (λ home session. is_begun session.phase) ≡ true → Goes script c x.next list x.phase ((k, Happened event added) ∷ turns) told
+  works : (event : Event) → client_passes (script_setting script) s c (λ home session. is_begun session.phase) ≡ true → ProgramsGo script c x.next list x.phase ((k, Happened event added) ∷ turns) told
       → (snap : ℕ) × (x.phase ≡ Begun snap) × Works script c x.next list snap ((k, Happened event added) ∷ turns) told
   works event can goes =
       let r = is_running (script_setting script) s c x can at in
-      (r.0, r.1, subst (λ (p : Phase). Goes script c x.next list p ((k, Happened event added) ∷ turns) told) r.1 goes)
+      (r.0, r.1, subst (λ (p : Phase). ProgramsGo script c x.next list p ((k, Happened event added) ∷ turns) told) r.1 goes)
 
-  at_begin : Turns (Begin c)
+  at_begin : IsOwnTurn (Begin c)
   at_begin move goes = begin_turn script c list k s added x turns told here steady move.may_happen move.may_add at goes
 
-  at_append : Turns (Append c)
+  at_append : IsOwnTurn (Append c)
   at_append move goes = let r = works (Append c) (left_of _ _ move.may_happen) goes in append_turn script c list k s added x r.0 turns told here steady at r.1 (within r.0 r.1) r.2
 
-  at_end : Turns (End c)
+  at_end : IsOwnTurn (End c)
   at_end move goes = let r = works (End c) move.may_happen goes in end_turn script c list k s added x r.0 turns told here move.may_add at r.1 (within r.0 r.1) r.2
 
-  at_refuse : Turns (Refuse c)
+  at_refuse : IsOwnTurn (Refuse c)
   at_refuse move goes = let r = works (Refuse c) (left_of _ _ move.may_happen) goes in refuse_turn script c list k s added x r.0 turns told here move.may_add at r.1 (within r.0 r.1) r.2
 
-  pub own_turn : (event : Event) → is_event_of c event ≡ true → Turns event
-  own_turn (Begin d) own = subst (λ (n : ℕ). Turns (Begin n)) (sym (same_number d c own)) at_begin
-  own_turn (Append d) own = subst (λ (n : ℕ). Turns (Append n)) (sym (same_number d c own)) at_append
-  own_turn (End d) own = subst (λ (n : ℕ). Turns (End n)) (sym (same_number d c own)) at_end
-  own_turn (Refuse d) own = subst (λ (n : ℕ). Turns (Refuse n)) (sym (same_number d c own)) at_refuse
+  pub own_turn : (event : Event) → is_event_of c event ≡ true → IsOwnTurn event
+  own_turn (Begin d) own = subst (λ (n : ℕ). IsOwnTurn (Begin n)) (sym (same_number d c own)) at_begin
+  own_turn (Append d) own = subst (λ (n : ℕ). IsOwnTurn (Append n)) (sym (same_number d c own)) at_append
+  own_turn (End d) own = subst (λ (n : ℕ). IsOwnTurn (End n)) (sym (same_number d c own)) at_end
+  own_turn (Refuse d) own = subst (λ (n : ℕ). IsOwnTurn (Refuse n)) (sym (same_number d c own)) at_refuse
   own_turn (Pad server) own = absurd (cc own)
   own_turn (Publish server upto) own = absurd (cc own)
   own_turn (Stop call pattern) own = absurd (cc own)

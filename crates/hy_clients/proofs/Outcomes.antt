@@ -1,11 +1,9 @@
 -- A roller that stands for the whole log tells the verdicts of the programs that were appended.
-use Rattle.std.proofs.Common.{◌≡◌, ℕ, zero, suc, ◌+◌, ◌/◌, ◌<◌, ◌≤◌, Bool, true, false, List, [], ◌∷◌, length, map, take, refl, ap, sym, ◌∙◌, subst, arith, length-append}
-use Rattle.std.specs.Prelude.{Option, Some, None, ⊤, nat_le, nat_lt, option_map, option_and_then, if◌then◌else◌}
+use Rattle.std.proofs.Common.{◌≡◌, ℕ, zero, suc, ◌+◌, ◌-◌, ◌/◌, ◌<◌, ◌≤◌, List, [], ◌∷◌, length, map, take, drop, refl, ap, sym, ◌∙◌, subst, arith, length-append}
+use Rattle.std.specs.Prelude.{Option, ⊤, option_map}
 use Rattle.std.specs.List.{filter_map, cons_option}
-use Rattle.std.proofs.lemmas.Bool.Decides.{nat_tests}
 use Rattle.std.proofs.Math.Nat.{mul-div_cancel_left}
 use mathlib.Core.List.{IsPrefix}
-use Rattle.hy_base.specs.Lists.{nth}
 use Rattle.hy_base.specs.Shape.{IsGoodShape}
 use Rattle.hy_base.specs.Script.{Workload}
 use Rattle.hy_base.specs.declared.record.EntryKind.{EntryKind}
@@ -15,14 +13,11 @@ use Rattle.hy_base.specs.declared.report.Outcome.TheVariants.{At}
 use Rattle.hy_base.specs.declared.report.Reply.{Reply}
 use Rattle.hy_base.specs.declared.workload.Client.{Client}
 use Rattle.hy_base.specs.declared.workload.Event.TheVariants.{Begin, Append, End, Refuse, Pad, Publish, Stop}
-use Rattle.hy_base.proofs.NthLemmas.{nth_within}
 use Rattle.hy_rolling.specs.Rolling.{Roll, Stands}
 use Rattle.hy_rules.specs.Runs.{verdict_at, outcome_of}
 use Rattle.hy_rules.specs.Validation.{verdicts, verdicts_after}
-use Rattle.hy_rules.proofs.Growth.{verdict_count}
-use Rattle.hy_pipe.specs.declared.roller.Told.TheVariants.{Known, NotYet, Past}
-use Rattle.hy_pipe.specs.Telling.{told}
-use Rattle.hy_pipe.proofs.Standing.{standing_tells}
+use Rattle.hy_pipe.specs.Telling.{kept_verdict}
+use Rattle.hy_pipe.proofs.Standing.{verdict_past}
 use Rattle.hy_hub.specs.declared.mark.Occurrence.{Occurrence}
 use Rattle.hy_hub.specs.declared.mark.Occurrence.TheVariants.{Opened, Happened, Halted, Lifted, Landed}
 use Rattle.hy_hub.specs.Trace.{state_after}
@@ -33,24 +28,11 @@ use Rattle.hy_clients.specs.declared.answered.End as end
 use Rattle.hy_clients.specs.declared.answered.End.TheVariants.{Reading, EntryAt, FullLog}
 use Rattle.hy_clients.specs.Passing.{opened_log}
 use Rattle.hy_clients.specs.Programs.{AreServed, EndsAs, ending_of_end}
-use Rattle.hy_clients.specs.Replying.{known_reply, outcome_by, reply_on}
+use Rattle.hy_clients.specs.Replying.{outcome_by, reply_on}
 use Rattle.hy_clients.specs.Served.{AllServed, reply_by}
 use Rattle.hy_clients.proofs.Turning.{take_same}
 
 -- ---- the verdicts of a whole log
-
-no_such : {X : Type 0} (xs : List X) (n : ℕ) (o : Option X) → nth xs n ≡ o → length xs < n → None ≡ o
-no_such xs n None is past = refl
-no_such xs n (Some x) is past = let w = nth_within xs n x is in let most = w.at_most in absurd (omega (arith, most, past))
-
-told_known : (vs : List (Option Verdict)) (from len pos : ℕ) → from < pos → length vs ≡ len → known_reply (if nat_le pos from then Past from else if nat_lt len pos then NotYet len else Known (verdict_at vs pos)) ≡ verdict_at vs pos
-told_known vs from len pos past size =
-    let low : nat_le pos from ≡ false = grind (arith, nat_tests) in
-    ap (λ (b : Bool). known_reply (if b then Past from else if nat_lt len pos then NotYet len else Known (verdict_at vs pos))) low ∙ by_end (nat_lt len pos) refl
-  where
-    by_end : (b : Bool) → nat_lt len pos ≡ b → known_reply (if b then NotYet len else Known (verdict_at vs pos)) ≡ verdict_at vs pos
-    by_end false e = refl
-    by_end true e = let above : length vs < pos = grind (arith, nat_tests) in ap (option_and_then (λ v. v)) (no_such vs pos (nth vs pos) refl above)
 
 -- the end of a program that was appended past a position
 abbrev pub IsPast : ℕ → end.End → Type 0
@@ -70,13 +52,10 @@ module _ (log : List EntryKind) (r : Roll) (good : IsGoodShape r.shape) (st : St
   abbrev vs : List (Option Verdict)
   vs = verdicts r.shape log (length log)
 
-  size : length vs ≡ length log
-  size =
-      let groups : length log / r.shape.group ≡ r.rolled.groups = ap (λ (k : ℕ). k / r.shape.group) st.whole ∙ mul-div_cancel_left r.rolled.groups good.group.at_least in
-      ap (λ (k : ℕ). length (verdicts_after r.shape log k)) groups ∙ (verdict_count r.shape log r.rolled.groups (let w = st.whole in omega (arith, w)) ∙ sym st.whole)
-
-  tells : (pos : ℕ) → r.from < pos → known_reply (told r pos) ≡ verdict_at vs pos
-  tells pos past = ap known_reply (standing_tells log r pos good st) ∙ told_known vs r.from (length log) pos past size
+  tells : (pos : ℕ) → r.from < pos → kept_verdict r pos ≡ verdict_at vs pos
+  tells pos past =
+      let groups : r.rolled.groups ≡ length log / r.shape.group = sym (ap (λ (k : ℕ). k / r.shape.group) st.whole ∙ mul-div_cancel_left r.rolled.groups good.group.at_least) in
+      ap (λ (l : List (Option Verdict)). verdict_at l (pos - r.from)) (st.verdicts_are ∙ ap (λ (k : ℕ). drop r.from (verdicts_after r.shape log k)) groups) ∙ verdict_past vs r.from pos past
 
   outcome_same : (snap : ℕ) (e : end.End) → IsPast r.from e → outcome_by r snap e ≡ outcome_of vs (record { client = 0; number = 0; snap = snap; ending = ending_of_end e })
   outcome_same snap Reading past = refl

@@ -19,32 +19,24 @@ use Rattle.hy_hub.specs.declared.mark.Occurrence.{Occurrence}
 use Rattle.hy_rolling.specs.Rolling.{Roll, rolled_upto, roll_on}
 use Rattle.hy_hub.specs.declared.mark.Backlog.{Backlog}
 use Rattle.hy_hub.specs.Trace.{setting_in}
-use Rattle.hy_hub.specs.Calls.{OneTurn, OwnTurn, IsIdle, IsEntryOf, IsRollable, IsRollerOf, len_of, is_declared_client}
+use Rattle.hy_hub.specs.Calls.{OwnTurn, IsIdle, IsEntryOf, IsRollable, IsRollerOf, len_of, is_declared_client}
 use Rattle.hy_base.proofs.NthLemmas.{nth_map, nth_within, All-nth}
+use Rattle.hy_hub.proofs.Later.{not_empty}
 use Rattle.hy_base.specs.Limits.{IsClientNumber, IsServerNumber}
 use Rattle.hy_clients.specs.Passing.{IsRunPass}
 use Rattle.hy_clients.specs.Serving.{IsServedClient}
 
--- a turn leaves a pass of the run one
-pub runs_on : (lock : Lock) (script : Workload) (all : ℕ) (old new : Known Occurrence) (does : List Occurrence → List Occurrence → Type 0) → OneTurn all old new does → setting_in new.seen ≡ setting_in old.seen → IsIdle lock new → IsRunPass lock script old
-    → IsRunPass lock script new
-runs_on lock script all old new does turn same idle run = record {
+-- a call of the hub leaves a pass of the run one
+pub run_on : {lock : Lock} {script : Workload} {old new : Known Occurrence} {does : List Occurrence → List Occurrence → Type 0} → IsRunPass lock script old → IsIdle lock new → OwnTurn old new does → IsRunPass lock script new
+run_on {lock} {script} {old} {new} {does} run idle turn = record {
   idle = idle;
   told = turn.told;
-  setting_is = same ∙ run.setting_is;
-}
-
--- so does a call of several holds
-pub own_runs_on : (lock : Lock) (script : Workload) (old new : Known Occurrence) (does : List Occurrence → List Occurrence → Type 0) → OwnTurn old new does → setting_in new.seen ≡ setting_in old.seen → IsIdle lock new → IsRunPass lock script old → IsRunPass lock script new
-own_runs_on lock script old new does turn same idle run = record {
-  idle = idle;
-  told = turn.told;
-  setting_is = same ∙ run.setting_is;
+  setting_is = turn.setting (not_empty old.seen run.told) ∙ run.setting_is;
 }
 
 -- ---- what is declared
 
-module _ (lock : Lock) (script : Workload) (pass : Known Occurrence) (run : IsRunPass lock script pass) where
+module _ {lock : Lock} {script : Workload} {pass : Known Occurrence} (run : IsRunPass lock script pass) where
   pub client_declared : (client : ℕ) → IsWithin 1 (length script.clients) client → is_declared_client client pass.seen
   client_declared client within =
       let count : length (setting_in pass.seen).homes ≡ length script.clients = ap (λ (w : Setting). length w.homes) run.setting_is ∙ length-map script.clients (λ (c : Client). record { server = c.server; programs = length c.programs }) in

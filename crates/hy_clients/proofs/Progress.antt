@@ -21,15 +21,15 @@ use Rattle.hy_clients.specs.Passing.{OpensStanding}
 use Rattle.hy_clients.specs.Programs.{AreServed, IsServed, EndsProgram, EndsAs, effects_on, answers_given}
 use Rattle.hy_clients.specs.Served.{ended_program}
 use Rattle.hy_clients.proofs.Sessions.{nth_changed, is_idle}
-use Rattle.hy_clients.proofs.Steady.{IsSteady}
-use Rattle.hy_clients.proofs.Answering.{AreAnswered, answer_grows}
+use Rattle.hy_clients.proofs.Steady.{IsSteadyState}
+use Rattle.hy_clients.proofs.Answering.{AnswersByLog, answer_grows}
 
 -- the event suits what the client's program left, and adds what the script's run adds
 abbrev pub Fits : Workload → State → Event → List EntryKind → Type 0
 Fits script s event added = (suits script s event ≡ true) × (added ≡ entries script s event)
 
 -- the list up to a place leads to this state, and its first roller stood
-pub record IsAt (script : Workload) (list : List Occurrence) (k : ℕ) (s : State) : Type 0 where
+pub record StateIsAt (script : Workload) (list : List Occurrence) (k : ℕ) (s : State) : Type 0 where
   pub state : state_after (take k list) ≡ s
   pub setting : setting_in (take k list) ≡ script_setting script
   pub stood : OpensStanding list
@@ -41,9 +41,9 @@ Works script c number list snap (last ∷ turns) [] = ⊥
 Works script c number list snap (last ∷ turns) (t ∷ told) = (first : ℕ × Occurrence) × (t.snap ≡ snap) × IsServed script c number list first last t × AreServed script c (number + 1) list turns told
 
 -- the turns to come, by the client's phase
-abbrev pub Goes : Workload → ℕ → ℕ → List Occurrence → Phase → List (ℕ × Occurrence) → List Answered → Type 0
-Goes script c number list Idle turns told = AreServed script c number list turns told
-Goes script c number list (Begun snap) turns told = Works script c number list snap turns told
+abbrev pub ProgramsGo : Workload → ℕ → ℕ → List Occurrence → Phase → List (ℕ × Occurrence) → List Answered → Type 0
+ProgramsGo script c number list Idle turns told = AreServed script c number list turns told
+ProgramsGo script c number list (Begun snap) turns told = Works script c number list snap turns told
 
 -- the ends of the client's programs from this number on
 abbrev pub ends_of : ℕ → ℕ → List Answered → List Ended
@@ -56,10 +56,10 @@ pub record IsTurn (script : Workload) (c : ℕ) (list : List Occurrence) (s : St
   pub next : Session
   pub at : nth (after (script_setting script) s event added).sessions c ≡ Some next
   pub left : List Answered
-  pub goes : Goes script c next.next list next.phase turns left
+  pub goes : ProgramsGo script c next.next list next.phase turns left
   pub within : (snap : ℕ) → next.phase ≡ Begun snap → snap ≤ length s.log
   pub ends : ended_by s event ++ ends_of c next.next left ≡ ends_of c x.next told
-  pub answers : (log : List EntryKind) → IsPrefix s.log log → AreAnswered script log c next.next left → AreAnswered script log c x.next told
+  pub answers : (log : List EntryKind) → IsPrefix s.log log → AnswersByLog script log c next.next left → AnswersByLog script log c x.next told
 
 -- ---- a program begins
 
@@ -68,12 +68,12 @@ begins script c number list turn [] told board is are = absurd are
 begins script c number list turn (last ∷ turns) [] board is are = absurd are
 begins script c number list turn (last ∷ turns) (t ∷ told) board is are = (turn, are.0.snap ∙ sym is, are.0, are.1)
 
-pub begin_turn : (script : Workload) (c : ℕ) (list : List Occurrence) (k : ℕ) (s : State) (added : List EntryKind) (x : Session) (turns : List (ℕ × Occurrence)) (told : List Answered) → IsAt script list k s → IsSteady s
-    → enabled (script_setting script) s (Begin c) ≡ true → added ≡ [] → nth s.sessions c ≡ Some x → Goes script c x.next list x.phase ((k, Happened (Begin c) added) ∷ turns) told → IsTurn script c list s (Begin c) added x turns told
+pub begin_turn : (script : Workload) (c : ℕ) (list : List Occurrence) (k : ℕ) (s : State) (added : List EntryKind) (x : Session) (turns : List (ℕ × Occurrence)) (told : List Answered) → StateIsAt script list k s → IsSteadyState s
+    → enabled (script_setting script) s (Begin c) ≡ true → added ≡ [] → nth s.sessions c ≡ Some x → ProgramsGo script c x.next list x.phase ((k, Happened (Begin c) added) ∷ turns) told → IsTurn script c list s (Begin c) added x turns told
 begin_turn script c list k s added x turns told here steady can none at goes =
     let w = script_setting script in
     let turn : ℕ × Occurrence = (k, Happened (Begin c) added) in
-    let are : AreServed script c x.next list (turn ∷ turns) told = subst (λ (p : Phase). Goes script c x.next list p (turn ∷ turns) told) (is_idle w s c x can at) goes in
+    let are : AreServed script c x.next list (turn ∷ turns) told = subst (λ (p : Phase). ProgramsGo script c x.next list p (turn ∷ turns) told) (is_idle w s c x can at) goes in
     let board : ℕ = board_of s (home_server w c) in
     let is : board ≡ board_at c (take k list) = λ i. board_of (sym here.state i) (home_server (sym here.setting i) c) in record {
       fits = (refl, none);
@@ -99,7 +99,7 @@ pub record Closes (script : Workload) (c number : ℕ) (s : State) (snap : ℕ) 
   pub answers : t.answers ≡ answers_given script s.log c number t.snap
   pub rest : AreServed script c (number + 1) list turns left
 
-pub closing : (script : Workload) (c number : ℕ) (s : State) (snap : ℕ) (list : List Occurrence) (k : ℕ) (mark : Occurrence) (turns : List (ℕ × Occurrence)) (told : List Answered) → IsAt script list k s → Works script c number list snap ((k, mark) ∷ turns) told → Closes script c number s snap list mark turns told
+pub closing : (script : Workload) (c number : ℕ) (s : State) (snap : ℕ) (list : List Occurrence) (k : ℕ) (mark : Occurrence) (turns : List (ℕ × Occurrence)) (told : List Answered) → StateIsAt script list k s → Works script c number list snap ((k, mark) ∷ turns) told → Closes script c number s snap list mark turns told
 closing script c number s snap list k mark turns [] here works = absurd works
 closing script c number s snap list k mark turns (t ∷ left) here works =
     let is : IsServed script c number list works.0 (k, mark) t = works.2 in
@@ -124,9 +124,9 @@ close_turn script c list s event added x snap mark turns told new cl fits at nex
       next = new;
       at = at;
       left = cl.left;
-      goes = subst (λ (p : Phase). Goes script c new.next list p turns cl.left) (sym idle) (subst (λ (n : ℕ). AreServed script c n list turns cl.left) up cl.rest);
+      goes = subst (λ (p : Phase). ProgramsGo script c new.next list p turns cl.left) (sym idle) (subst (λ (n : ℕ). AreServed script c n list turns cl.left) up cl.rest);
       within = λ q e. absurd (cc (idle, e));
       ends = ap (λ (l : List Ended). l ++ ends_of c new.next cl.left) here ∙ (ap (λ (n : ℕ). ended_program c x.next cl.t ∷ ends_of c n cl.left) (sym up) ∙ ap (ends_of c x.next) (sym cl.told_is));
-      answers = λ log p all. subst (λ (l : List Answered). AreAnswered script log c x.next l) (sym cl.told_is)
-          (cl.answers ∙ answer_grows script s.log log c x.next cl.t.snap p (omega (arith, within, cl.snap_is)), subst (λ (n : ℕ). AreAnswered script log c n cl.left) (sym up) all);
+      answers = λ log p all. subst (λ (l : List Answered). AnswersByLog script log c x.next l) (sym cl.told_is)
+          (cl.answers ∙ answer_grows script s.log log c x.next cl.t.snap p (omega (arith, within, cl.snap_is)), subst (λ (n : ℕ). AnswersByLog script log c n cl.left) (sym up) all);
     }

@@ -7,6 +7,8 @@ use Rattle.std.proofs.lemmas.Bool.Decides.{nat_tests}
 use Rattle.hy_base.specs.declared.layout.Shape.{Shape}
 use Rattle.hy_base.specs.declared.record.EntryKind.{EntryKind}
 use Rattle.hy_base.specs.declared.record.EntryKind.TheVariants.{Filler}
+use Rattle.std.specs.declared.alloc.AllocError.{AllocError}
+use Rattle.hy_base.specs.declared.workload.Event.{Event}
 use Rattle.hy_base.specs.declared.workload.Event.TheVariants.{Pad, Publish}
 use Rattle.hy_base.specs.Shape.{whole_groups}
 use Rattle.hy_base.specs.Lists.{nth, change_nth}
@@ -24,7 +26,7 @@ use Rattle.hy_hub.specs.declared.mark.PublishRefusal.{PublishRefusal}
 use Rattle.hy_hub.specs.declared.mark.PublishRefusal.TheVariants.{Memory as NoRoom, Stale}
 use Rattle.hy_hub.specs.Trace.{setting, opening_state, setting_in, state_after}
 use Rattle.hy_hub.specs.Hub.{IsBoardAt, IsHubHistory}
-use Rattle.hy_hub.specs.Calls.{OneTurn, PadTurn, PadDoes, LookDoes, PublishDoes, IsRollerOf, len_of, lack_of, events_in_list}
+use Rattle.hy_hub.specs.Calls.{OneTurn, PadTurn, PadDoes, LookDoes, PublishDoes, TraceDoes, IsRollerOf, len_of, lack_of, events_in_list}
 use Rattle.hy_hub.specs.Laws.{IsPadded, IsPublished}
 use Rattle.hy_base.proofs.NthLemmas.{left_of, right_of, both}
 use Rattle.hy_hub.proofs.Told.{told_setting}
@@ -173,6 +175,11 @@ alone_does {all} {old} {new} {does} turn alone = subst (λ (l : List Occurrence)
 -- a look shows the same list again
 pub looks_alone : {all : ℕ} (old new : Known Occurrence) (server : ℕ) (look : Backlog) → OneTurn all old new (LookDoes server (Ok look)) → old.parts ≡ all → new.seen ≡ old.seen
 looks_alone {all} old new server look turn alone = let does = alone_does turn alone in nothing_more old.seen turn.added new.seen (alone_adds turn alone) does.0
+
+-- so does a trace, whatever it answers
+pub traces_alone : {all : ℕ} (old new : Known Occurrence) (answer : Result (List Event) AllocError) → OneTurn all old new (TraceDoes answer) → old.parts ≡ all → new.seen ≡ old.seen
+traces_alone {all} old new (Ok events) turn alone = let does = alone_does turn alone in nothing_more old.seen turn.added new.seen (alone_adds turn alone) does.0
+traces_alone {all} old new (Err e) turn alone = let does = alone_does turn alone in nothing_more old.seen turn.added new.seen (alone_adds turn alone) does
 
 -- the board before a look that gives nothing
 pub looks_at_end : {all : ℕ} (old new : Known Occurrence) (server : ℕ) (look : Backlog) → OneTurn all old new (LookDoes server (Ok look)) → old.parts ≡ all → IsHubHistory old.seen → len_of old.seen % (setting_in old.seen).shape.group ≡ 0 → length look.entries ≡ 0 → board_of (state_after old.seen) server ≡ len_of old.seen

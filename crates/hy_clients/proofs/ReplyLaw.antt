@@ -23,7 +23,7 @@ use Rattle.hy_clients.specs.declared.answered.End as end
 use Rattle.hy_clients.specs.declared.answered.End.TheVariants.{Reading, EntryAt, FullLog}
 use Rattle.hy_clients.specs.Programs.{ending_of_end, answers_given}
 use Rattle.hy_clients.specs.Served.{AllServed, RepliesAreTold, ended_program, reply_by}
-use Rattle.hy_clients.proofs.Answering.{AreAnswered}
+use Rattle.hy_clients.proofs.Answering.{AnswersByLog}
 use Rattle.hy_clients.proofs.Endings.{endings, is_end_of}
 use Rattle.hy_clients.proofs.Progress.{ends_of}
 use Rattle.hy_clients.proofs.Running.{AreFit, step_is}
@@ -74,7 +74,7 @@ module _ (script : Workload) (log : List EntryKind) (vs : List (Option Verdict))
   abbrev reply_at : ℕ → Option Reply
   reply_at number = option_and_then (reply_of script log vs) (find (λ e. (e.client == c) && (e.number == number)) done)
 
-  replies_same : (number : ℕ) (told : List Answered) (programs : List Program) → length told ≡ length programs → AreAnswered script log c number told
+  replies_same : (number : ℕ) (told : List Answered) (programs : List Program) → length told ≡ length programs → AnswersByLog script log c number told
       → ((m : ℕ) → number ≤ m → find (λ (e : Ended). (e.client == c) && (e.number == m)) done ≡ find (λ (e : Ended). e.number == m) (ends_of c number told))
       → filter_map (λ (p : ℕ × Program). option_and_then (reply_of script log vs) (find (λ e. (e.client == c) && (e.number == p.0)) done)) (enumerate_from number programs) ≡ filter_map (reply_by vs) told
   replies_same number [] [] size all look = refl
@@ -121,7 +121,7 @@ replies_law script list told script_is is same all stood =
     let number : suc k ≡ n = omega (arith, e) in
     let by = client_told script list told all (suc k) client h in
     let walk = walked script list is same (suc k) client by.0 stood h by.2 in
-    let answers : AreAnswered script log (suc k) 1 by.0 = subst (λ (s : State). AreAnswered script s.log (suc k) 1 by.0) (sym (state_is script list is same)) walk.answers in
+    let answers : AnswersByLog script log (suc k) 1 by.0 = subst (λ (s : State). AnswersByLog script s.log (suc k) 1 by.0) (sym (state_is script list is same)) walk.answers in
     let ends : filter (is_end_of (suc k)) done ≡ ends_of (suc k) 1 by.0 = ap (filter (is_end_of (suc k))) done_is ∙ walk.ended in
     let here : replies_to script log done (suc k) client ≡ filter_map (reply_by vs) by.0 = replies_same script log vs (suc k) done 1 by.0 client.programs by.2.whole answers (λ m le.
     find_both (is_end_of (suc k)) (λ (x : Ended). x.number == m) done ∙ ap (find (λ (x : Ended). x.number == m)) ends) in

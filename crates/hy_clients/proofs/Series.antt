@@ -13,7 +13,8 @@ use Rattle.hy_clients.specs.Passing.{own_turns, GoesOn}
 use Rattle.hy_clients.specs.Programs.{IsServed, AreServed, EndsProgram, EndsAs, before, effects_on, answers_given}
 use Rattle.hy_clients.specs.Serving.{Begins, EndsServed, Serves}
 use Rattle.hy_clients.proofs.Openings.{stood_before}
-use Rattle.hy_clients.proofs.Turning.{prefix_length, take_same, goes_further, next_after}
+use Rattle.hy_hist.proofs.Lists.{prefix_length}
+use Rattle.hy_clients.proofs.Turning.{take_same, goes_further, next_after}
 
 -- ---- after turns that are not the client's
 

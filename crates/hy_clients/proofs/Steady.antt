@@ -16,7 +16,7 @@ use Rattle.hy_hub.specs.Trace.{after_all, AreMoves}
 use Rattle.hy_base.proofs.NthLemmas.{right_of}
 use Rattle.hy_hub.proofs.Turns.{unarmed}
 
-pub record IsSteady (s : State) : Type 0 where
+pub record IsSteadyState (s : State) : Type 0 where
   pub calm : s.armed ≡ None
   pub boards : (server : ℕ) → board_of s server ≤ length s.log
 
@@ -27,7 +27,7 @@ replicated (suc n) board zero len le = omega arith
 replicated (suc n) board (suc zero) len le = le
 replicated (suc n) board (suc (suc server)) len le = replicated n board (suc server) len le
 
-pub opens_steady : (w : Setting) (found : List EntryKind) → IsSteady (opening w found)
+pub opens_steady : (w : Setting) (found : List EntryKind) → IsSteadyState (opening w found)
 opens_steady w found = record { calm = refl; boards = λ server. replicated w.servers (whole_groups w.shape (length found)) server (length found) (omega arith) }
 
 one_changed : (bs : List ℕ) (d c q len : ℕ) → q ≤ len → unwrap_or (nth bs c) 0 ≤ len → unwrap_or (nth (change_nth (λ _. q) bs d) c) 0 ≤ len
@@ -51,7 +51,7 @@ boards_after w s (Publish d q) added c calm can le =
     one_changed s.boards d c q (length s.log) (leb-true q (length s.log) within) le
 boards_after w s (Stop call pattern) added c calm can le = le
 
-pub stays_steady : (w : Setting) (s : State) (event : Event) (added : List EntryKind) → enabled w s event ≡ true → is_stop event ≡ false → IsSteady s → IsSteady (after w s event added)
+pub stays_steady : (w : Setting) (s : State) (event : Event) (added : List EntryKind) → enabled w s event ≡ true → is_stop event ≡ false → IsSteadyState s → IsSteadyState (after w s event added)
 stays_steady w s event added can n steady = record { calm = unarmed w s event added steady.calm n; boards = λ c. boards_after w s event added c steady.calm can (steady.boards c) }
 
 pub log_after : (w : Setting) (s : State) (event : Event) (added : List EntryKind) → s.armed ≡ None → IsPrefix s.log (after w s event added).log

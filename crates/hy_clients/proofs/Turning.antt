@@ -1,21 +1,16 @@
 -- Turns of a pass, and which of them are a client's.
-use Rattle.std.proofs.Common.{◌≡◌, ℕ, ◌+◌, ◌-◌, ◌≤◌, true, false, List, [], ◌∷◌, ◌++◌, length, take, drop, refl, ap, sym, ◌∙◌, arith, append_assoc, length-append}
+use Rattle.std.proofs.Common.{◌≡◌, ℕ, ◌+◌, ◌-◌, ◌≤◌, true, List, [], ◌∷◌, ◌++◌, length, take, drop, refl, ap, sym, ◌∙◌, subst, arith, append_assoc, length-append}
 use Rattle.std.specs.Prelude.{filter, if◌then◌else◌}
 use Rattle.std.proofs.lemmas.List.{append-nil, take-append-drop, take-append-le}
 use Rattle.std.proofs.lemmas.List.Elements.{filter-append}
 use Rattle.std.proofs.Math.Seq.{take-append_seam, take-append-add}
 use mathlib.Core.List.{IsPrefix}
 use Rattle.hy_hist.specs.Passes.{Known, made}
+use Rattle.hy_hist.proofs.Lists.{prefix_trans, prefix_length}
 use Rattle.hy_hub.specs.declared.mark.Occurrence.{Occurrence}
 use Rattle.hy_hub.specs.Calls.{OneTurn, OwnTurn, placed_at}
 use Rattle.hy_hub.specs.Turns.{is_mark_of}
 use Rattle.hy_clients.specs.Passing.{own_turns, GoesOn, IsNextTurn}
-
-pub prefix_trans : (xs ys zs : List Occurrence) → IsPrefix xs ys → IsPrefix ys zs → IsPrefix xs zs
-prefix_trans xs ys zs p q = (p.0 ++ q.0, sym (append_assoc xs p.0 q.0) ∙ (ap (λ l. l ++ q.0) p.1 ∙ q.1))
-
-pub prefix_length : (xs ys : List Occurrence) → IsPrefix xs ys → length xs ≤ length ys
-prefix_length xs ys p = omega (arith, ap length p.1, length-append xs p.0)
 
 -- what a list begins with, so does the list before a later place
 pub prefix_take : (xs ys : List Occurrence) (n : ℕ) → IsPrefix xs ys → length xs ≤ n → IsPrefix xs (take n ys)
@@ -42,8 +37,8 @@ goes_further client a b c xs ys g h = record {
 }
 
 -- a pass that took no turn of the client, and then went on so
-pub quiet_then : (client : ℕ) (a b c : Known Occurrence) (ys : List (ℕ × Occurrence)) → GoesOn client a b [] → GoesOn client b c ys → GoesOn client a c ys
-quiet_then client a b c ys g h = goes_further client a b c [] ys g h
+pub quiet_then : {client : ℕ} {a b c : Known Occurrence} {ys : List (ℕ × Occurrence)} → GoesOn client a b [] → GoesOn client b c ys → GoesOn client a c ys
+quiet_then {client} {a} {b} {c} {ys} g h = goes_further client a b c [] ys g h
 
 pub next_after : (client : ℕ) (a b c : Known Occurrence) (turn : ℕ × Occurrence) → GoesOn client a b [] → IsNextTurn client b c turn → IsNextTurn client a c turn
 next_after client a b c turn g next = record {
@@ -52,74 +47,49 @@ next_after client a b c turn g next = record {
   within = next.within;
 }
 
--- what stands around a pass's own item, or none
-module _ (client : ℕ) (old new : Known Occurrence) (before own after : List Occurrence) (begins : IsPrefix old.seen before) (seen : new.seen ≡ before ++ (own ++ after)) (makes : made new ≡ made old ++ placed_at (length before) own) where
-  around_grows : IsPrefix old.seen new.seen
-  around_grows = (begins.0 ++ (own ++ after), sym (append_assoc old.seen begins.0 (own ++ after)) ∙ (ap (λ l. l ++ (own ++ after)) begins.1 ∙ sym seen))
+-- ---- a call of the hub
 
-  around_before : take (length before) new.seen ≡ before
-  around_before = ap (take (length before)) seen ∙ take-append_seam before (own ++ after)
+-- a turn is a call of several holds, behind whose own item nothing stands
+abbrev pub as_own : {all : ℕ} {old new : Known Occurrence} {does : List Occurrence → List Occurrence → Type 0} → OneTurn all old new does → OwnTurn old new does
+as_own {all} {old} {new} {does} turn = record {
+  before = turn.before;
+  own = turn.added;
+  after = [];
+  grown = turn.grown;
+  seen = turn.seen ∙ ap (λ l. turn.before ++ l) (sym (append-nil turn.added));
+  told = turn.told;
+  setting = turn.setting;
+  few = turn.few;
+  makes = turn.makes;
+  done = turn.done;
+}
 
-  around_goes : new.parts ≡ old.parts → (turns : List (ℕ × Occurrence)) → filter (λ t. is_mark_of client t.1) (placed_at (length before) own) ≡ turns → GoesOn client old new turns
-  around_goes parts turns e = record {
-    grown = around_grows;
-    parts = parts;
-    own = ap (filter (λ (t : ℕ × Occurrence). is_mark_of client t.1)) makes ∙ (filter-append (λ (t : ℕ × Occurrence). is_mark_of client t.1) (made old) (placed_at (length before) own) ∙ ap (λ l. own_turns client old ++ l) e);
-  }
+-- none of these marks is the client's, wherever they stand
+abbrev pub AreOthers : ℕ → List Occurrence → Type 0
+AreOthers client marks = (place : ℕ) → filter (λ turn. is_mark_of client turn.1) (placed_at place marks) ≡ []
 
-  around_none : new.parts ≡ old.parts → own ≡ [] → GoesOn client old new []
-  around_none parts e = around_goes parts [] (ap (λ l. filter (λ (t : ℕ × Occurrence). is_mark_of client t.1) (placed_at (length before) l)) e)
-
-  around_other : new.parts ≡ old.parts → (mark : Occurrence) → own ≡ mark ∷ [] → is_mark_of client mark ≡ false → GoesOn client old new []
-  around_other parts mark e other =
-      around_goes parts [] (ap (λ l. filter (λ (t : ℕ × Occurrence). is_mark_of client t.1) (placed_at (length before) l)) e ∙ ap (λ b. if b then (length before, mark) ∷ [] else []) other)
-
-  around_own : new.parts ≡ old.parts → (mark : Occurrence) → own ≡ mark ∷ [] → is_mark_of client mark ≡ true → IsNextTurn client old new (length before, mark)
-  around_own parts mark e mine = record {
-    goes = around_goes parts ((length before, mark) ∷ []) (ap (λ l. filter (λ (t : ℕ × Occurrence). is_mark_of client t.1) (placed_at (length before) l)) e ∙ ap (λ b. if b then (length before, mark) ∷ [] else []) mine);
-    behind = prefix_length old.seen before begins;
-    within = omega (arith, ap length seen, length-append before (own ++ after), length-append own after, ap length e);
-  }
-
--- a turn, which adds its own item at the list's end
-module _ (client all : ℕ) (old new : Known Occurrence) (does : List Occurrence → List Occurrence → Type 0) (turn : OneTurn all old new does) where
-  shown : new.seen ≡ turn.before ++ (turn.added ++ [])
-  shown = turn.seen ∙ ap (λ l. turn.before ++ l) (sym (append-nil turn.added))
-
+module _ {old new : Known Occurrence} {does : List Occurrence → List Occurrence → Type 0} (turn : OwnTurn old new does) where
   pub grows : IsPrefix old.seen new.seen
-  grows = around_grows client old new turn.before turn.added [] turn.grown shown turn.makes
+  grows = let p = turn.grown in (p.0 ++ (turn.own ++ turn.after), sym (append_assoc old.seen p.0 (turn.own ++ turn.after)) ∙ (ap (λ l. l ++ (turn.own ++ turn.after)) p.1 ∙ sym turn.seen))
 
   pub before_is : take (length turn.before) new.seen ≡ turn.before
-  before_is = around_before client old new turn.before turn.added [] turn.grown shown turn.makes
+  before_is = ap (take (length turn.before)) turn.seen ∙ take-append_seam turn.before (turn.own ++ turn.after)
 
-  -- it added nothing
-  pub goes_none : new.parts ≡ old.parts → turn.added ≡ [] → GoesOn client old new []
-  goes_none = around_none client old new turn.before turn.added [] turn.grown shown turn.makes
+  goes : (client : ℕ) → new.parts ≡ old.parts → (turns : List (ℕ × Occurrence)) → filter (λ t. is_mark_of client t.1) (placed_at (length turn.before) turn.own) ≡ turns → GoesOn client old new turns
+  goes client parts turns e = record {
+    grown = grows;
+    parts = parts;
+    own = ap (filter (λ (t : ℕ × Occurrence). is_mark_of client t.1)) turn.makes ∙ (filter-append (λ (t : ℕ × Occurrence). is_mark_of client t.1) (made old) (placed_at (length turn.before) turn.own) ∙ ap (λ l. own_turns client old ++ l) e);
+  }
 
-  -- it added what isn't the client's
-  pub goes_other : new.parts ≡ old.parts → (mark : Occurrence) → turn.added ≡ mark ∷ [] → is_mark_of client mark ≡ false → GoesOn client old new []
-  goes_other = around_other client old new turn.before turn.added [] turn.grown shown turn.makes
-
-  -- it added a mark of the client
-  pub goes_own : new.parts ≡ old.parts → (mark : Occurrence) → turn.added ≡ mark ∷ [] → is_mark_of client mark ≡ true → IsNextTurn client old new (length turn.before, mark)
-  goes_own = around_own client old new turn.before turn.added [] turn.grown shown turn.makes
-
--- a call of several holds, around whose own item others may stand
-module _ (client : ℕ) (old new : Known Occurrence) (does : List Occurrence → List Occurrence → Type 0) (turn : OwnTurn old new does) where
-  pub own_grows : IsPrefix old.seen new.seen
-  own_grows = around_grows client old new turn.before turn.own turn.after turn.grown turn.seen turn.makes
-
-  pub own_before : take (length turn.before) new.seen ≡ turn.before
-  own_before = around_before client old new turn.before turn.own turn.after turn.grown turn.seen turn.makes
-
-  -- nothing is its own
-  pub own_none : new.parts ≡ old.parts → turn.own ≡ [] → GoesOn client old new []
-  own_none = around_none client old new turn.before turn.own turn.after turn.grown turn.seen turn.makes
-
-  -- its own isn't the client's
-  pub own_other : new.parts ≡ old.parts → (mark : Occurrence) → turn.own ≡ mark ∷ [] → is_mark_of client mark ≡ false → GoesOn client old new []
-  own_other = around_other client old new turn.before turn.own turn.after turn.grown turn.seen turn.makes
+  -- what is its own isn't the client's
+  pub goes_quiet : {marks : List Occurrence} (client : ℕ) → new.parts ≡ old.parts → turn.own ≡ marks → AreOthers client marks → GoesOn client old new []
+  goes_quiet {marks} client parts is others = goes client parts [] (subst (AreOthers client) (sym is) others (length turn.before))
 
   -- its own is a mark of the client
-  pub own_own : new.parts ≡ old.parts → (mark : Occurrence) → turn.own ≡ mark ∷ [] → is_mark_of client mark ≡ true → IsNextTurn client old new (length turn.before, mark)
-  own_own = around_own client old new turn.before turn.own turn.after turn.grown turn.seen turn.makes
+  pub goes_own : (client : ℕ) → new.parts ≡ old.parts → (mark : Occurrence) → turn.own ≡ mark ∷ [] → is_mark_of client mark ≡ true → IsNextTurn client old new (length turn.before, mark)
+  goes_own client parts mark e mine = record {
+    goes = goes client parts ((length turn.before, mark) ∷ []) (ap (λ l. filter (λ (t : ℕ × Occurrence). is_mark_of client t.1) (placed_at (length turn.before) l)) e ∙ ap (λ b. if b then (length turn.before, mark) ∷ [] else []) mine);
+    behind = prefix_length old.seen turn.before turn.grown;
+    within = omega (arith, ap length turn.seen, length-append turn.before (turn.own ++ turn.after), length-append turn.own turn.after, ap length e);
+  }

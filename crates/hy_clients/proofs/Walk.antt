@@ -23,9 +23,9 @@ use Rattle.hy_clients.specs.declared.answered.Answered.{Answered}
 use Rattle.hy_clients.specs.Passing.{OpensStanding}
 use Rattle.hy_clients.proofs.OwnTurns.{own_from}
 use Rattle.hy_clients.proofs.Sessions.{others_keep}
-use Rattle.hy_clients.proofs.Steady.{IsSteady, stays_steady, log_after, log_led}
-use Rattle.hy_clients.proofs.Progress.{Fits, IsAt, Goes, ends_of}
-use Rattle.hy_clients.proofs.Answering.{AreAnswered}
+use Rattle.hy_clients.proofs.Steady.{IsSteadyState, stays_steady, log_after, log_led}
+use Rattle.hy_clients.proofs.Progress.{Fits, StateIsAt, ProgramsGo, ends_of}
+use Rattle.hy_clients.proofs.Answering.{AnswersByLog}
 use Rattle.hy_clients.proofs.Endings.{endings, is_end_of, others_end, own_ends}
 use Rattle.hy_clients.proofs.Fitting.{own_turn}
 
@@ -42,9 +42,9 @@ AreFitOf script c s (Landed ∷ marks) = AreFitOf script c s marks
 pub record IsWalked (script : Workload) (c : ℕ) (s : State) (marks : List Occurrence) (x : Session) (told : List Answered) : Type 0 where
   pub fits : AreFitOf script c s marks
   pub ended : filter (is_end_of c) (endings script s marks) ≡ ends_of c x.next told
-  pub answers : AreAnswered script (after_all (script_setting script) s marks).log c x.next told
+  pub answers : AnswersByLog script (after_all (script_setting script) s marks).log c x.next told
 
-none_left : (script : Workload) (c number : ℕ) (list : List Occurrence) (p : Phase) (told : List Answered) → Goes script c number list p [] told → told ≡ []
+none_left : (script : Workload) (c number : ℕ) (list : List Occurrence) (p : Phase) (told : List Answered) → ProgramsGo script c number list p [] told → told ≡ []
 none_left script c number list Idle [] goes = refl
 none_left script c number list Idle (t ∷ told) goes = absurd goes
 none_left script c number list (Begun snap) told goes = absurd goes
@@ -54,11 +54,11 @@ longer s w event added snap calm within = let p = log_after w s event added calm
 
 -- one mark, and the walk behind it
 module _ (script : Workload) (c : ℕ) (list : List Occurrence) (k : ℕ) (s : State) (event : Event) (added : List EntryKind) (marks : List Occurrence) (x : Session) (told : List Answered)
-    (here : IsAt script list k s) (steady : IsSteady s) (move : Moves (script_setting script) s event added (after (script_setting script) s event added)) (n : is_stop event ≡ false)
+    (here : StateIsAt script list k s) (steady : IsSteadyState s) (move : Moves (script_setting script) s event added (after (script_setting script) s event added)) (n : is_stop event ≡ false)
     (at : nth s.sessions c ≡ Some x) (within : (snap : ℕ) → x.phase ≡ Begun snap → snap ≤ length s.log) (grows : IsPrefix s.log (after_all (script_setting script) (after (script_setting script) s event added) marks).log)
     (later : (y : Session) (left : List Answered) → nth (after (script_setting script) s event added).sessions c ≡ Some y → ((snap : ℕ) → y.phase ≡ Begun snap → snap ≤ length (after (script_setting script) s event added).log)
-    → Goes script c y.next list y.phase (own_from c (suc k) marks) left → IsWalked script c (after (script_setting script) s event added) marks y left) where
-  one_mark : (b : Bool) → is_event_of c event ≡ b → Goes script c x.next list x.phase (cond b ((k, Happened event added) ∷ own_from c (suc k) marks) (own_from c (suc k) marks)) told → IsWalked script c s (Happened event added ∷ marks) x told
+    → ProgramsGo script c y.next list y.phase (own_from c (suc k) marks) left → IsWalked script c (after (script_setting script) s event added) marks y left) where
+  one_mark : (b : Bool) → is_event_of c event ≡ b → ProgramsGo script c x.next list x.phase (cond b ((k, Happened event added) ∷ own_from c (suc k) marks) (own_from c (suc k) marks)) told → IsWalked script c s (Happened event added ∷ marks) x told
   one_mark false other goes =
       let w = script_setting script in
       let rest = later x told (others_keep w s event added c steady.calm n other ∙ at) (λ snap e. longer s w event added snap steady.calm (within snap e)) goes in
@@ -77,7 +77,7 @@ module _ (script : Workload) (c : ℕ) (list : List Occurrence) (k : ℕ) (s : S
         answers = t.answers (after_all w (after w s event added) marks).log grows rest.answers;
       }
 
-is_at : (script : Workload) (o : Origin) (list front rest : List Occurrence) (k : ℕ) (s : State) → setting o ≡ script_setting script → list ≡ Opened o ∷ (front ++ rest) → suc (length front) ≡ k → after_all (setting o) (opening (setting o) o.found) front ≡ s → OpensStanding list → IsAt script list k s
+is_at : (script : Workload) (o : Origin) (list front rest : List Occurrence) (k : ℕ) (s : State) → setting o ≡ script_setting script → list ≡ Opened o ∷ (front ++ rest) → suc (length front) ≡ k → after_all (setting o) (opening (setting o) o.found) front ≡ s → OpensStanding list → StateIsAt script list k s
 is_at script o list front rest k s w is place leads stood =
     let front_is : take k list ≡ Opened o ∷ front = ap (λ n. take n list) (sym place) ∙ (ap (take (suc (length front))) is ∙ ap (λ (l : List Occurrence). Opened o ∷ l) (take-append_seam front rest)) in record {
       state = subst (λ (l : List Occurrence). state_after l ≡ s) (sym front_is) leads;
@@ -86,13 +86,13 @@ is_at script o list front rest k s w is place leads stood =
     }
 
 pub walk : (script : Workload) (c : ℕ) (o : Origin) (list front marks : List Occurrence) (k : ℕ) (s : State) (x : Session) (told : List Answered) → OpensStanding list → setting o ≡ script_setting script
-    → list ≡ Opened o ∷ (front ++ marks) → suc (length front) ≡ k → after_all (setting o) (opening (setting o) o.found) front ≡ s → AreMoves (script_setting script) s marks → IsSteady s → nth s.sessions c ≡ Some x
-    → ((snap : ℕ) → x.phase ≡ Begun snap → snap ≤ length s.log) → Goes script c x.next list x.phase (own_from c k marks) told → IsWalked script c s marks x told
+    → list ≡ Opened o ∷ (front ++ marks) → suc (length front) ≡ k → after_all (setting o) (opening (setting o) o.found) front ≡ s → AreMoves (script_setting script) s marks → IsSteadyState s → nth s.sessions c ≡ Some x
+    → ((snap : ℕ) → x.phase ≡ Begun snap → snap ≤ length s.log) → ProgramsGo script c x.next list x.phase (own_from c k marks) told → IsWalked script c s marks x told
 walk script c o list front [] k s x told stood w is place leads all steady at within goes =
     let none : told ≡ [] = none_left script c x.next list x.phase told goes in record {
       fits = tt;
       ended = ap (ends_of c x.next) (sym none);
-      answers = subst (λ (l : List Answered). AreAnswered script s.log c x.next l) (sym none) tt;
+      answers = subst (λ (l : List Answered). AnswersByLog script s.log c x.next l) (sym none) tt;
     }
 walk script c o list front (Opened o' ∷ marks) k s x told stood w is place leads all steady at within goes = absurd all
 walk script c o list front (Halted h risen ∷ marks) k s x told stood w is place leads all steady at within goes =

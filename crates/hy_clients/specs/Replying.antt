@@ -1,27 +1,18 @@
 -- The replies to the clients, by a roller.
-use Rattle.std.specs.Prelude.{ℕ, Option, Some, None, option_map}
-use Rattle.hy_base.specs.declared.record.Verdict.{Verdict}
+use Rattle.std.specs.Prelude.{ℕ, Option, Some, option_map}
 use Rattle.hy_base.specs.declared.report.Outcome.{Outcome}
 use Rattle.hy_base.specs.declared.report.Outcome.TheVariants.{Read, At, Full}
 use Rattle.hy_base.specs.declared.report.Reply.{Reply}
 use Rattle.hy_rolling.specs.Rolling.{Roll}
-use Rattle.hy_pipe.specs.declared.roller.Told.{Told}
-use Rattle.hy_pipe.specs.declared.roller.Told.TheVariants.{Known, NotYet, Past}
-use Rattle.hy_pipe.specs.Telling.{told}
+use Rattle.hy_pipe.specs.Telling.{kept_verdict}
 use Rattle.hy_clients.specs.declared.answered.Answered.{Answered}
 use Rattle.hy_clients.specs.declared.answered.End as end
 use Rattle.hy_clients.specs.declared.answered.End.TheVariants.{Reading, EntryAt, FullLog}
 
--- a verdict that is told
-abbrev pub known_reply : Told → Option Verdict
-known_reply (Known verdict) = verdict
-known_reply (NotYet at) = None
-known_reply (Past from) = None
-
 -- what became of a program that ended so, by a roller
 abbrev pub outcome_by : Roll → ℕ → end.End → Option Outcome
 outcome_by r snap Reading = Some (Read snap)
-outcome_by r snap (EntryAt pos) = option_map (At pos) (known_reply (told r pos))
+outcome_by r snap (EntryAt pos) = option_map (At pos) (kept_verdict r pos)
 outcome_by r snap FullLog = Some Full
 
 -- the reply to a program, by a roller

@@ -9,10 +9,10 @@ ghost use Rattle.hy_hub.specs.Trace.{state_after};
 ghost use Rattle.hy_clients.specs.Services.{IsPassOf, IsServerOf};
 
 use crate::service::Service;
-use crate::serving::Cut;
+use crate::serving::{Cut, completed, published};
 use hy_disk::Disk;
 use hy_hist::Pass;
-use hy_hub::{Backlog, Contents, PadRefusal, PublishRefusal};
+use hy_hub::{Backlog, Contents};
 use hy_pipe::Gate;
 use std::sync::Wait;
 use std::thread::Threads;
@@ -45,11 +45,7 @@ fn publish_look<D: Disk, R: Threads + Wait + Sync, G: Gate + Sync>(
     let rolled = look
         .roller
         .roll(rt, service.alloc, entries, service.threads, service.gate)?;
-    match service.hub.publish(rt, pass, server, rolled) {
-        Ok(()) => Ok(()),
-        Err(PublishRefusal::Stale { .. }) => Ok(()),
-        Err(PublishRefusal::Memory) => Err(Cut),
-    }
+    published(service.hub.publish(rt, pass, server, rolled))
 }
 
 // A server publishes the log up to its end, where it hasn't.
@@ -89,13 +85,7 @@ pub(crate) fn bring_to_end<D: Disk, R: Threads + Wait + Sync, G: Gate + Sync>(
     ensures ends { OnOk result (list_all (λ board. board == length (state_after pass.new.seen).log) (state_after pass.new.seen).boards ≡ true) }
 {
     let servers = service.script.servers();
-    match service.hub.pad(rt, pass, 1) {
-        Ok(_) => {}
-        Err(PadRefusal::Even) => {}
-        Err(PadRefusal::Memory) => return Err(Cut),
-        Err(PadRefusal::Stopped { .. }) => return Err(Cut),
-        Err(PadRefusal::Device) => return Err(Cut),
-    }
+    completed(service.hub.pad(rt, pass, 1))?;
     for at in 0..servers {
         publish_end(rt, service, pass, at + 1)?;
     }

@@ -1,33 +1,18 @@
 //! The replies to the clients, by a roller of the whole log.
 ghost use Rattle.std.specs.Prelude.{◌≡◌, IfOk, map, filter_map};
-ghost use Rattle.hy_pipe.specs.Telling.{told};
-ghost use Rattle.hy_clients.specs.Replying.{known_reply, outcome_by, reply_on};
+ghost use Rattle.hy_clients.specs.Replying.{outcome_by, reply_on};
 
 use crate::answered::{Answered, End};
-use hy_base::{Items, Outcome, Pos, Replies, Reply, Verdict};
-use hy_pipe::{Roller, Told};
+use hy_base::{Items, Outcome, Replies, Reply};
+use hy_pipe::Roller;
 use std::alloc::{AllocError, Global};
-
-// The verdict of a position, by a roller. It keeps that of each position to which a client of this run appended.
-fn verdict_at(roller: &Roller, pos: Pos) -> Option<Verdict>
-    ensures { result ≡ known_reply (told roller.now pos) }
-{
-    match roller.verdict(pos) {
-        Told::Known(verdict) => verdict,
-        Told::NotYet { .. } => None,
-        Told::Past { .. } => None,
-    }
-}
 
 fn outcome_of(roller: &Roller, told: &Answered) -> Option<Outcome>
     ensures { result ≡ outcome_by roller.now told.now.snap told.now.end }
 {
     match told.end {
         End::Reading => Some(Outcome::Read { snap: told.snap }),
-        End::EntryAt { pos } => match verdict_at(roller, pos) {
-            Some(verdict) => Some(Outcome::At { pos, verdict }),
-            None => None,
-        },
+        End::EntryAt { pos } => roller.outcome(pos),
         End::FullLog => Some(Outcome::Full),
     }
 }

@@ -1,5 +1,5 @@
 //! A client's programs, one after another: each is begun, run on its snapshot, and ended.
-ghost use Rattle.std.specs.Prelude.{◌≡◌, ◌+◌, ◌%◌, ◌≤◌, ℕ, [], length, Some, None, IfOk, IfSome, OnOk, OnErr};
+ghost use Rattle.std.specs.Prelude.{◌≡◌, ◌≢◌, ◌+◌, ◌%◌, ◌≤◌, ℕ, [], length, Some, None, IsOk, IsErr, IfOk, IfSome, OnOk, OnErr};
 ghost use Rattle.hy_base.specs.Lists.{nth};
 ghost use Rattle.hy_base.specs.Shape.{IsWithin};
 ghost use Rattle.hy_base.specs.declared.workload.Client.{Client};
@@ -7,6 +7,7 @@ ghost use Rattle.hy_base.specs.Limits.{IsThreadCount};
 ghost use Rattle.hy_rules.specs.Runs.{program_of};
 ghost use Rattle.hy_rolling.specs.Rolling.{rolled_upto, roll_on};
 ghost use Rattle.hy_hub.specs.Calls.{IsEntryOf, IsRollable, IsRollerOf, len_of};
+ghost use Rattle.hy_hub.specs.Laws.{IsPadded, IsPublished};
 ghost use Rattle.hy_clients.specs.Services.{IsPassOf, IsServerOf, IsClientOf};
 ghost use Rattle.hy_clients.specs.Passing.{GoesOn, own_turns};
 ghost use Rattle.hy_clients.specs.Programs.{AreServed};
@@ -42,6 +43,19 @@ impl<T: Drop> From<AllocFailed<T>> for Cut {
     }
 }
 
+/// Whether the last group is whole, by the answer to a pad.
+pub(crate) fn completed(answer: Result<Pos, PadRefusal>) -> Result<(), Cut>
+    ensures { OnOk result (IsPadded answer) }
+{
+    match answer {
+        Ok(_) => Ok(()),
+        Err(PadRefusal::Even) => Ok(()),
+        Err(PadRefusal::Memory) => Err(Cut),
+        Err(PadRefusal::Stopped { .. }) => Err(Cut),
+        Err(PadRefusal::Device) => Err(Cut),
+    }
+}
+
 // Completes the last group, where it isn't whole.
 fn complete_group<D: Disk, R: Wait, G>(
     rt: &R,
@@ -54,13 +68,7 @@ fn complete_group<D: Disk, R: Wait, G>(
     ensures pass { IsPassOf service.now pass.new }
     ensures goes { (client : ℕ) → GoesOn client pass.old pass.new [] }
 {
-    match service.hub.pad(rt, pass, server) {
-        Ok(_) => Ok(()),
-        Err(PadRefusal::Even) => Ok(()),
-        Err(PadRefusal::Memory) => Err(Cut),
-        Err(PadRefusal::Stopped { .. }) => Err(Cut),
-        Err(PadRefusal::Device) => Err(Cut),
-    }
+    completed(service.hub.pad(rt, pass, server))
 }
 
 // The roller of the server's board, and the entries past it that make whole groups.
@@ -124,6 +132,17 @@ fn look_to<D: Disk, R: Wait, G>(
     look_whole(rt, service, pass, server)
 }
 
+/// Whether the server's board is at a roller's position, by the answer to a publish.
+pub(crate) fn published(answer: Result<(), PublishRefusal>) -> Result<(), Cut>
+    ensures { OnOk result (IsPublished answer) }
+{
+    match answer {
+        Ok(()) => Ok(()),
+        Err(PublishRefusal::Stale { .. }) => Ok(()),
+        Err(PublishRefusal::Memory) => Err(Cut),
+    }
+}
+
 // Puts the server's board on to a roller's position, where it isn't that far.
 fn publish<D: Disk, R: Wait, G>(
     rt: &R,
@@ -139,11 +158,7 @@ fn publish<D: Disk, R: Wait, G>(
     ensures pass { IsPassOf service.now pass.new }
     ensures goes { (client : ℕ) → GoesOn client pass.old pass.new [] }
 {
-    match service.hub.publish(rt, pass, server, roller) {
-        Ok(()) => Ok(()),
-        Err(PublishRefusal::Stale { .. }) => Ok(()),
-        Err(PublishRefusal::Memory) => Err(Cut),
-    }
+    published(service.hub.publish(rt, pass, server, roller))
 }
 
 // The roller of a look, once it has rolled the entries. None where it was at the position already.
@@ -277,6 +292,18 @@ fn begin_program<D: Disk, R: Threads + Wait + Sync, G: Gate + Sync>(
     unreachable!()
 }
 
+// How a program that only read has ended, by the answer to its end. None where the client is out of turn.
+fn ended(answer: Result<(), EndRefusal>) -> Result<Option<End>, Cut>
+    ensures ended { (end : _) → result ≡ Ok (Some end) → (end ≡ End.Reading) × IsOk answer }
+    ensures not { result ≡ Ok None → IsErr answer }
+{
+    match answer {
+        Ok(()) => Ok(Some(End::Reading)),
+        Err(EndRefusal::OutOfTurn { .. }) => Ok(None),
+        Err(EndRefusal::Memory) => Err(Cut),
+    }
+}
+
 // Ends the client's program, which only read. None where the client is out of turn.
 fn end_reading<D: Disk, R: Wait, G>(
     rt: &R,
@@ -291,10 +318,23 @@ fn end_reading<D: Disk, R: Wait, G>(
     ensures ended { (end : _) → result ≡ Ok (Some end) → (end ≡ End.Reading) × EndsReading client pass.old pass.new }
     ensures not { result ≡ Ok None → GoesOn client pass.old pass.new [] }
 {
-    match service.hub.end(rt, pass, client) {
-        Ok(()) => Ok(Some(End::Reading)),
-        Err(EndRefusal::OutOfTurn { .. }) => Ok(None),
-        Err(EndRefusal::Memory) => Err(Cut),
+    ended(service.hub.end(rt, pass, client))
+}
+
+// How a program that wrote has ended, by the answer to its append. None where the client is out of turn.
+fn appended(answer: Result<Pos, AppendRefusal>) -> Result<Option<End>, Cut>
+    ensures entered { (pos : _) → result ≡ Ok (Some (End.EntryAt pos)) → answer ≡ Ok pos }
+    ensures full { result ≡ Ok (Some End.FullLog) → answer ≡ Err AppendRefusal.Full }
+    ensures read { result ≢ Ok (Some End.Reading) }
+    ensures not { result ≡ Ok None → (who : _) × (phase : _) × (answer ≡ Err (AppendRefusal.OutOfTurn who phase)) }
+{
+    match answer {
+        Ok(pos) => Ok(Some(End::EntryAt { pos })),
+        Err(AppendRefusal::Full) => Ok(Some(End::FullLog)),
+        Err(AppendRefusal::OutOfTurn { .. }) => Ok(None),
+        Err(AppendRefusal::Memory) => Err(Cut),
+        Err(AppendRefusal::Stopped { .. }) => Err(Cut),
+        Err(AppendRefusal::Device) => Err(Cut),
     }
 }
 
@@ -314,14 +354,7 @@ fn append_entry<D: Disk, R: Wait, G>(
     ensures taken { (end : _) → result ≡ Ok (Some end) → Takes client entry pass.old pass.new end }
     ensures not { result ≡ Ok None → GoesOn client pass.old pass.new [] }
 {
-    match service.hub.append(rt, pass, client, entry) {
-        Ok(pos) => Ok(Some(End::EntryAt { pos })),
-        Err(AppendRefusal::Full) => Ok(Some(End::FullLog)),
-        Err(AppendRefusal::OutOfTurn { .. }) => Ok(None),
-        Err(AppendRefusal::Memory) => Err(Cut),
-        Err(AppendRefusal::Stopped { .. }) => Err(Cut),
-        Err(AppendRefusal::Device) => Err(Cut),
-    }
+    appended(service.hub.append(rt, pass, client, entry))
 }
 
 // Ends a program that has run, by its entry where it wrote. None where the client is out of turn.

@@ -97,14 +97,14 @@ filter_one f x xs = by_option (f x) refl
     by_option (Some y) is = rw is refl
 
 -- the session at each place from a number on
-abbrev AreFrom : State → ℕ → List ClientState → Type 0
-AreFrom s number xs = (k : ℕ) (x : ClientState) → nth xs (suc k) ≡ Some x → nth s.sessions (number + k) ≡ Some x.session
+abbrev SessionsFrom : State → ℕ → List ClientState → Type 0
+SessionsFrom s number xs = (k : ℕ) (x : ClientState) → nth xs (suc k) ≡ Some x → nth s.sessions (number + k) ≡ Some x.session
 
-lost_from : (s : State) (number : ℕ) (xs : List ClientState) → 1 ≤ number → AreFrom s number xs → filter_map (lost_of s 0) (enumerate_from number (map (λ (x : ClientState). x.session) xs)) ≡ map ended_in_course (all_abandoned number xs)
+lost_from : (s : State) (number : ℕ) (xs : List ClientState) → 1 ≤ number → SessionsFrom s number xs → filter_map (lost_of s 0) (enumerate_from number (map (λ (x : ClientState). x.session) xs)) ≡ map ended_in_course (all_abandoned number xs)
 lost_from s number [] some are = refl
 lost_from s number (x ∷ xs) some are =
     let here : nth s.sessions number ≡ Some x.session = let e : number ≡ number + 0 = omega arith in ap (nth s.sessions) e ∙ are 0 x refl in
-    let later : AreFrom s (number + 1) xs = λ k y is. let e : number + 1 + k ≡ number + suc k = omega arith in ap (nth s.sessions) e ∙ are (suc k) y is in
+    let later : SessionsFrom s (number + 1) xs = λ k y is. let e : number + 1 + k ≡ number + suc k = omega arith in ap (nth s.sessions) e ∙ are (suc k) y is in
     filter_one (lost_of s 0) (number, x.session) (enumerate_from (number + 1) (map (λ (y : ClientState). y.session) xs))
     ∙ (λ i. lost_one s 0 number x x.session.phase (grind (arith, some)) refl here i ++ lost_from s (number + 1) xs (omega arith) later i)
     ∙ sym (map-append ended_in_course (abandoned_told number x) (all_abandoned (number + 1) xs))
@@ -218,16 +218,16 @@ is_kept_one s kept number x y same idle =
     never false e = refl
 
 -- the changed place is the kept one, or lies before
-abbrev IsPlace : ℕ → ℕ → ℕ → Type 0
-IsPlace kept number zero = kept < number
-IsPlace kept number (suc n) = kept ≡ number + n
+abbrev IsChangedPlace : ℕ → ℕ → ℕ → Type 0
+IsChangedPlace kept number zero = kept < number
+IsChangedPlace kept number (suc n) = kept ≡ number + n
 
-lost_changed : (s : State) (kept number : ℕ) (xs : List ClientState) (n : ℕ) (y : ClientState) → y.session.phase ≡ Idle → AreFrom s number xs → IsPlace kept number n
+lost_changed : (s : State) (kept number : ℕ) (xs : List ClientState) (n : ℕ) (y : ClientState) → y.session.phase ≡ Idle → SessionsFrom s number xs → IsChangedPlace kept number n
     → filter_map (lost_of s kept) (enumerate_from number (map (λ (x : ClientState). x.session) xs)) ≡ map ended_in_course (all_abandoned number (change_nth (λ _. y) xs n))
 lost_changed s kept number [] n y idle are place = refl
 lost_changed s kept number (x ∷ xs) zero y idle are place =
     let here : nth s.sessions number ≡ Some x.session = let e : number ≡ number + 0 = omega arith in ap (nth s.sessions) e ∙ are 0 x refl in
-    let later : AreFrom s (number + 1) xs = λ k z is. let e : number + 1 + k ≡ number + suc k = omega arith in ap (nth s.sessions) e ∙ are (suc k) z is in
+    let later : SessionsFrom s (number + 1) xs = λ k z is. let e : number + 1 + k ≡ number + suc k = omega arith in ap (nth s.sessions) e ∙ are (suc k) z is in
     filter_one (lost_of s kept) (number, x.session) (enumerate_from (number + 1) (map (λ (z : ClientState). z.session) xs))
     ∙ (λ i. lost_one s kept number x x.session.phase (grind (arith, place)) refl here i ++ (lost_changed s kept (number + 1) xs zero y idle later (omega (arith, place)) ∙ ap (λ zs. map ended_in_course (all_abandoned (number + 1) zs)) (unchanged y xs)) i)
     ∙ sym (map-append ended_in_course (abandoned_told number x) (all_abandoned (number + 1) xs))
@@ -236,7 +236,7 @@ lost_changed s kept number (x ∷ xs) zero y idle are place =
     unchanged z [] = refl
     unchanged z (w ∷ zs) = refl
 lost_changed s kept number (x ∷ xs) (suc zero) y idle are place =
-    let later : AreFrom s (number + 1) xs = λ k z is. let e : number + 1 + k ≡ number + suc k = omega arith in ap (nth s.sessions) e ∙ are (suc k) z is in
+    let later : SessionsFrom s (number + 1) xs = λ k z is. let e : number + 1 + k ≡ number + suc k = omega arith in ap (nth s.sessions) e ∙ are (suc k) z is in
     filter_one (lost_of s kept) (number, x.session) (enumerate_from (number + 1) (map (λ (z : ClientState). z.session) xs))
     ∙ (λ i. is_kept_one s kept number x y (grind (arith, place)) idle i ++ (lost_changed s kept (number + 1) xs zero y idle later (omega (arith, place)) ∙ ap (λ zs. map ended_in_course (all_abandoned (number + 1) zs)) (unchanged y xs)) i)
     ∙ sym (map-append ended_in_course (abandoned_told number y) (all_abandoned (number + 1) xs))
@@ -246,7 +246,7 @@ lost_changed s kept number (x ∷ xs) (suc zero) y idle are place =
     unchanged z (w ∷ zs) = refl
 lost_changed s kept number (x ∷ xs) (suc (suc n)) y idle are place =
     let here : nth s.sessions number ≡ Some x.session = let e : number ≡ number + 0 = omega arith in ap (nth s.sessions) e ∙ are 0 x refl in
-    let later : AreFrom s (number + 1) xs = λ k z is. let e : number + 1 + k ≡ number + suc k = omega arith in ap (nth s.sessions) e ∙ are (suc k) z is in
+    let later : SessionsFrom s (number + 1) xs = λ k z is. let e : number + 1 + k ≡ number + suc k = omega arith in ap (nth s.sessions) e ∙ are (suc k) z is in
     filter_one (lost_of s kept) (number, x.session) (enumerate_from (number + 1) (map (λ (z : ClientState). z.session) xs))
     ∙ (λ i. lost_one s kept number x x.session.phase (grind (arith, place)) refl here i ++ lost_changed s kept (number + 1) xs (suc n) y idle later (omega (arith, place)) i)
     ∙ sym (map-append ended_in_course (abandoned_told number x) (all_abandoned (number + 1) (change_nth (λ _. y) xs (suc n))))
@@ -298,7 +298,7 @@ append_kept script h client pos snap x run e stop rs script_is is armed keeps at
     } in
     subst (λ (l : List EntryKind). StepsTo script h (record { log = l; pages = pages_with (Some stop) 1 e h.pages; rollers = rs; client_states = map abandoned_client_state xs; told = (h.told ++ t ∷ []) ++ all_abandoned 1 xs; armed = None }) (Append client)) (sym same_log) steps
   where
-    place_is : (n : ℕ) → 1 ≤ n → IsPlace n 1 n
+    place_is : (n : ℕ) → 1 ≤ n → IsChangedPlace n 1 n
     place_is zero some = absurd (omega (arith, some))
     place_is (suc n) some = omega arith
 

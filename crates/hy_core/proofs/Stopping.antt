@@ -1,5 +1,5 @@
 -- An append in which a stop strikes.
-use Rattle.std.proofs.Common.{◌≡◌, inl, inr, ◌∙◌, ℕ, ◌+◌, ◌≤◌, Bool, true, false, List, [], ◌++◌, length, map, ap, sym, subst, arith}
+use Rattle.std.proofs.Common.{◌≡◌, ◌⊎◌, inl, inr, ◌∙◌, ℕ, ◌+◌, ◌≤◌, Bool, true, false, List, [], ◌++◌, length, map, ap, sym, subst, arith}
 use Rattle.std.proofs.lemmas.List.{append-nil}
 use Rattle.std.proofs.lemmas.Bool.{cases_Bool}
 use Rattle.std.specs.Prelude.{Some, None, option_and_then, if◌then◌else◌, replicate}
@@ -13,9 +13,10 @@ use Rattle.hy_base.proofs.NthLemmas.{All-nth}
 use Rattle.hy_rolling.specs.Rolling.{Roll}
 use Rattle.hy_rules.specs.Moves.{is_kept, is_begun}
 use Rattle.hy_rules.specs.Runs.{may_happen}
+use Rattle.hy_memlog.specs.Pages.{Pages, broken_log}
 use Rattle.hy_core.specs.declared.running.Running.{Running}
 use Rattle.hy_core.specs.declared.parts.ClientState.{ClientState}
-use Rattle.hy_core.specs.Parts.{Holding, ClientStateFits, departed, IsHolding, IsBegunAt, BegunClientState, LeavesEntry, NextFits, Leaves, HasRestarted, AreRestarted, StepsTo, left_entry, kept_by, struck, state_in_course, abandoned_client_state, all_abandoned}
+use Rattle.hy_core.specs.Parts.{Holding, ClientStateFits, departed, IsHolding, IsBegunAt, BegunClientState, LeavesEntry, NextFits, Leaves, HasRestarted, AreRestarted, StepsTo, left_entry, kept_by, struck, broken, state_in_course, abandoned_client_state, all_abandoned}
 use Rattle.hy_core.proofs.Leaving.{LeftEntry, left_entry_is}
 use Rattle.hy_core.proofs.LogGrowth.{lawful_kept}
 use Rattle.hy_core.proofs.Ending.{begun_at, append_begun, leaves_entry, next_fits}
@@ -23,11 +24,16 @@ use Rattle.hy_core.proofs.ClientStateLemmas.{KeptClientAt, kept_client_at}
 use Rattle.hy_core.proofs.Publishing.{all_change}
 use Rattle.hy_core.proofs.Restarts.{append_lost, append_kept, client_states_fit}
 
--- the entry that is appended is the one that the program leaves
-abbrev pub IsLeft : Holding → ℕ → EntryKind → Type 0
-IsLeft h client e = left_entry h.client_states client ≡ Some e
+-- pages that are as before, or broken, are so for all that is kept
+pub kept_or_broken : (h : Holding) (pages : Pages) → (pages ≡ h.pages) ⊎ (pages ≡ broken_log h.pages) → (record h { pages = pages } ≡ h) ⊎ (record h { pages = pages } ≡ broken h)
+kept_or_broken h pages (inl same) = inl (λ i. record h { pages = same i })
+kept_or_broken h pages (inr broke) = inr (λ i. record h { pages = broke i })
 
-module _ (script : Workload) (h : Holding) (client : ℕ) (e : EntryKind) (script_is : IsScript script) (is : IsHolding script h) (may : may_happen script (state_in_course h) (Append client) ≡ true) (own : IsLeft h client e) where
+-- the entry that is appended is the one that the program leaves
+abbrev pub IsLeftEntry : Holding → ℕ → EntryKind → Type 0
+IsLeftEntry h client e = left_entry h.client_states client ≡ Some e
+
+module _ (script : Workload) (h : Holding) (client : ℕ) (e : EntryKind) (script_is : IsScript script) (is : IsHolding script h) (may : may_happen script (state_in_course h) (Append client) ≡ true) (own : IsLeftEntry h client e) where
   pub begun : IsBegunAt h client
   begun = begun_at script h client is (append_begun script h client may)
 

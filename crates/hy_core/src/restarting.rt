@@ -1,5 +1,5 @@
 //! What a stop leaves, and the restart after it.
-ghost use Rattle.std.specs.Prelude.{◌≡◌, ◌⊎◌, ◌+◌, ◌-◌, ◌<◌, ◌≤◌, ◌++◌, ◌^◌, length, replicate, take, drop, vec_len, vec_capacity, Some, None, IfOk, OnOk, OnErr};
+ghost use Rattle.std.specs.Prelude.{◌≡◌, ◌⊎◌, ◌+◌, ◌-◌, ◌<◌, ◌≤◌, ◌++◌, ◌^◌, length, take, drop, vec_len, vec_capacity, Some, None, IfOk, OnOk, OnErr};
 ghost use Rattle.std.specs.List.{AllByRecursion};
 ghost use Rattle.hy_base.specs.Log.{IsLawful};
 ghost use Rattle.hy_base.specs.Shape.{IsGoodShape, whole_groups};
@@ -9,7 +9,7 @@ ghost use Rattle.hy_memlog.specs.Pages.{IsStop};
 ghost use Rattle.hy_core.specs.Parts.{IsHolding, AreRestarted, HasPlaces, ClientStateFits, HasRestarted, abandoned_client_state, abandoned_told, kept_by, struck, broken, log_held};
 
 use crate::parts::{ClientState, EndedProgram, Parts, ProgramEnd, roller_of};
-use hy_base::{Answers, ArmedStop, Entry, Phase, Pos, Script, Session, Shape, Shared};
+use hy_base::{Answers, ArmedStop, Entry, Phase, Pos, Script, Session, Shape, Shared, share_all};
 use hy_codec::encode;
 use hy_pipe::{Gate, Roller};
 use std::alloc::{AllocError, Global};
@@ -44,17 +44,6 @@ fn first(log: &[Shared<Entry>], count: Pos) -> &[Shared<Entry>]
     &log[..count as usize]
 }
 
-fn shares(alloc: Global, log: &[Shared<Entry>]) -> Result<Vec<Shared<Entry>>, AllocError>
-    ensures { IfOk result (λ entries. entries.items ≡ log.now) }
-{
-    let mut entries = Vec::with_capacity(alloc, log.len())?;
-    for entry in log {
-        entries.reserve(1)?;
-        entries.push_reserved(entry.share()?);
-    }
-    Ok(entries)
-}
-
 // Shares of these entries, and of one more where a stop keeps it.
 fn shares_with(
     alloc: Global,
@@ -64,24 +53,12 @@ fn shares_with(
 ) -> Result<Vec<Shared<Entry>>, AllocError>
     ensures { IfOk result (λ entries. entries.items ≡ log.now ++ kept_by stop entry.now) }
 {
-    let mut entries = shares(alloc, log)?;
+    let mut entries = share_all(alloc, log)?;
     if is_kept(stop) {
         entries.reserve(1)?;
         entries.push_reserved(entry.share()?);
     }
     Ok(entries)
-}
-
-// One and the same roller, for each server.
-fn for_each_server(alloc: Global, roller: &Roller, servers: u8) -> Result<Vec<Roller>, AllocError>
-    ensures { IfOk result (λ rollers. rollers.items ≡ replicate servers roller.now) }
-{
-    let mut rollers = Vec::new(alloc);
-    for _server in 0..servers {
-        rollers.reserve(1)?;
-        rollers.push_reserved(roller.share()?);
-    }
-    Ok(rollers)
 }
 
 // The boards after a restart on the log and the entry that the stop keeps: the first server's roller goes on from its
@@ -109,7 +86,7 @@ fn restarted<R: Threads + Sync, G: Gate + Sync>(
     let entries = shares_with(alloc, past(&core.log, from), entry, stop)?;
     let upto = whole(shape, from + entries.len() as Pos);
     let rolled = roller.roll(rt, alloc, first(&entries, upto - from), threads, gate)?;
-    for_each_server(alloc, &rolled, script.servers())
+    rolled.share_times(alloc, script.servers())
 }
 
 /// A stop strikes in the append of an entry: it is on the device exactly where the stop keeps it. Answers the boards on

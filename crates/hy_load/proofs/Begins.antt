@@ -12,20 +12,20 @@ use Rattle.hy_rules.proofs.Backward.{next_state}
 use Rattle.hy_gen.specs.Load.{program_count, script_of}
 use Rattle.hy_gen.specs.Rounds.{begin_events, home, is_beginning, is_first, number_in, period}
 use Rattle.hy_load.proofs.Spots.{change_middle, nth_middle, run_both, run_one}
-use Rattle.hy_load.proofs.Steady.{AreAll, IsAmid, IsBefore, IsBusy, IsIdle, board_before, board_is, boards_before, calm_state, home_of, passes, program_total, turn_in}
+use Rattle.hy_load.proofs.Steady.{AreAll, IsAmid, IsBeforeRound, IsBusy, IsIdleBehind, board_before, board_is, boards_before, calm_state, home_of, passes, program_total, turn_in}
 use Rattle.hy_load.proofs.Turns.{home_within}
 
 -- ---- one client
 
 -- a client's session after the begins, and the events that lead to it
-record Begins (seed : ℕ) (readers : List Bool) (t client : ℕ) (log : List EntryKind) (done : List Session) (x : Session) (todo : List Session) : Type 0 where
+record ClientBegins (seed : ℕ) (readers : List Bool) (t client : ℕ) (log : List EntryKind) (done : List Session) (x : Session) (todo : List Session) : Type 0 where
   session : Session
   amid : IsAmid readers t client session
   leads : run (script_of seed (length readers)) (calm_state log (boards_before readers t) (done ++ x ∷ todo)) (begin_events (length readers) t client)
       ≡ Some (calm_state log (boards_before readers t) (done ++ session ∷ todo))
 
 one_begins : (seed : ℕ) (readers : List Bool) (t client : ℕ) (log : List EntryKind) (done : List Session) (x : Session) (todo : List Session) → 1 ≤ client → client ≤ 8 → client ≡ length done + 1
-    → IsBefore readers t client x → Begins seed readers t client log done x todo
+    → IsBeforeRound readers t client x → ClientBegins seed readers t client log done x todo
 one_begins seed readers t client log done x todo least most at before = go (is_first (home client) t) refl before.does
   where
     size : ℕ
@@ -44,16 +44,16 @@ one_begins seed readers t client log done x todo least most at before = go (is_f
     s = calm_state log boards (done ++ x ∷ todo)
 
     Does : Type 0
-    Does = (IsIdle (min turn count) x × ((t % period (home client) ≡ 0) ⊎ (count ≤ turn))) ⊎ (IsBusy turn count x × (t % period (home client) ≡ 0 → ⊥))
+    Does = (IsIdleBehind (min turn count) x × ((t % period (home client) ≡ 0) ⊎ (count ≤ turn))) ⊎ (IsBusy turn count x × (t % period (home client) ≡ 0 → ⊥))
 
     here : board_of s (home client) ≡ board_before readers t (home client)
     here = board_is readers t (home client) (home_within client).at_least (home_within client).at_most
 
     -- no event
-    waits : is_beginning size t client ≡ false → (IsIdle count x × (count ≤ turn)) ⊎ IsBusy turn count x → Begins seed readers t client log done x todo
+    waits : is_beginning size t client ≡ false → (IsIdleBehind count x × (count ≤ turn)) ⊎ IsBusy turn count x → ClientBegins seed readers t client log done x todo
     waits none does = record { session = x; amid = record { last = before.last; does = does }; leads = rw none refl }
 
-    enters : is_beginning size t client ≡ true → IsIdle (min turn count) x → turn < count → Begins seed readers t client log done x todo
+    enters : is_beginning size t client ≡ true → IsIdleBehind (min turn count) x → turn < count → ClientBegins seed readers t client log done x todo
     enters begins idle few =
         let board : ℕ = board_of s (home_server (setting_of (script_of seed size)) client) in
         let fits : nat_le x.next (home_of seed size client).programs ≡ true = le-leb _ _ (let n = idle.next in omega (arith, n, few, program_total seed size client)) in
@@ -69,7 +69,7 @@ one_begins seed readers t client log done x todo least most at before = go (is_f
         }
 
     -- a round in which programs begin
-    first : is_first (home client) t ≡ true → IsIdle (min turn count) x → (c : Bool) → nat_lt (number_in client t) size ≡ c → Begins seed readers t client log done x todo
+    first : is_first (home client) t ≡ true → IsIdleBehind (min turn count) x → (c : Bool) → nat_lt (number_in client t) size ≡ c → ClientBegins seed readers t client log done x todo
     first is idle true below =
         let number = ltb-true (number_in client t) size below in
         enters (rw (is, below) refl) idle (omega (arith, number, least, most))
@@ -78,7 +78,7 @@ one_begins seed readers t client log done x todo least most at before = go (is_f
         let behind : count ≤ turn = omega (arith, number, least, most) in
         waits (rw (is, past) refl) (inl (record { phase = idle.phase; next = let n = idle.next in omega (arith, n, behind) }, behind))
 
-    go : (b : Bool) → is_first (home client) t ≡ b → Does → Begins seed readers t client log done x todo
+    go : (b : Bool) → is_first (home client) t ≡ b → Does → ClientBegins seed readers t client log done x todo
     go true is (inl (idle, free)) = first is idle (nat_lt (number_in client t) size) refl
     go true is (inr (busy, amid)) = absurd (amid (eqb-true _ _ is))
     go false is (inl (idle, inl first)) = absurd (eqb-false _ _ is first)
@@ -95,7 +95,7 @@ pub record AllBegin (seed : ℕ) (readers : List Bool) (t client : ℕ) (log : L
   pub leads : run (script_of seed (length readers)) (calm_state log (boards_before readers t) (done ++ todo)) (flat_map (begin_events (length readers) t) (range_with_len client (length todo)))
       ≡ Some (calm_state log (boards_before readers t) (done ++ sessions))
 
-pub all_begin : (seed : ℕ) (readers : List Bool) (t client : ℕ) (log : List EntryKind) (done todo : List Session) → client ≡ length done + 1 → length done + length todo ≤ 8 → AreAll (IsBefore readers t) client todo
+pub all_begin : (seed : ℕ) (readers : List Bool) (t client : ℕ) (log : List EntryKind) (done todo : List Session) → client ≡ length done + 1 → length done + length todo ≤ 8 → AreAll (IsBeforeRound readers t) client todo
     → AllBegin seed readers t client log done todo
 all_begin seed readers t client log done [] at all before = record { sessions = []; amid = tt; count = refl; leads = refl }
 all_begin seed readers t client log done (x ∷ todo) at all before =

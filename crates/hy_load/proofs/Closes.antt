@@ -26,16 +26,16 @@ fillers_count : (bound n server : ℕ) → AllByRecursion (EntryCounts bound) (r
 fillers_count bound zero server = tt
 fillers_count bound (suc n) server = (tt, fillers_count bound n server)
 
-pub record IsPadded (seed size : ℕ) (log : List EntryKind) (boards : List ℕ) (sessions : List Session) : Type 0 where
+pub record EndsPadded (seed size : ℕ) (log : List EntryKind) (boards : List ℕ) (sessions : List Session) : Type 0 where
   pub after : List EntryKind
   pub counts : LogCounts after
   pub whole_now : length after ≡ whole (length log)
   pub leads : run (script_of seed size) (calm_state log boards sessions) (pads (length log)) ≡ Some (calm_state after boards sessions)
 
-pub padded : (seed size : ℕ) (log : List EntryKind) (boards : List ℕ) (sessions : List Session) → LogCounts log → IsPadded seed size log boards sessions
+pub padded : (seed size : ℕ) (log : List EntryKind) (boards : List ℕ) (sessions : List Session) → LogCounts log → EndsPadded seed size log boards sessions
 padded seed size log boards sessions counts = go (length log % 4 == 0) refl
   where
-    go : (b : Bool) → (length log % 4 == 0) ≡ b → IsPadded seed size log boards sessions
+    go : (b : Bool) → (length log % 4 == 0) ≡ b → EndsPadded seed size log boards sessions
     go true is = let at_end = eqb-true _ _ is in record { after = log; counts = counts; whole_now = omega (arith, at_end); leads = rw is refl }
     go false is =
         let open_group = eqb-false _ _ is in

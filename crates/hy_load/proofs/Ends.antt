@@ -23,9 +23,9 @@ use Rattle.hy_gen.specs.Rounds.{ending, ends, entry_count, home, is_last, log_le
 use Rattle.hy_load.specs.Laws.{CountsUpTo, EntryCounts, LogCounts}
 use Rattle.hy_load.proofs.Bounds.{len_rises}
 use Rattle.hy_load.proofs.Counting.{live_counts}
-use Rattle.hy_load.proofs.Programs.{Leaves, program_leaves}
+use Rattle.hy_load.proofs.Programs.{ProgramLeaves, program_leaves}
 use Rattle.hy_load.proofs.Spots.{change_middle, get_beyond, nth_middle, run_both, run_one}
-use Rattle.hy_load.proofs.Steady.{AreAll, IsAmid, IsBefore, IsBusy, IsIdle, board_before, boards_before, calm_state, passes, program_is, turn_in}
+use Rattle.hy_load.proofs.Steady.{AreAll, IsAmid, IsBeforeRound, IsBusy, IsIdleBehind, board_before, boards_before, calm_state, passes, program_is, turn_in}
 use Rattle.hy_load.proofs.Turns.{IsPeriod, home_within, is_period, start}
 
 -- ---- logs that grow
@@ -63,21 +63,21 @@ pending_is seed size client turn snap log boards sessions x least most few is be
 
 -- ---- one client
 
-pub record Ends (seed : ℕ) (readers : List Bool) (t client : ℕ) (log : List EntryKind) (done : List Session) (x : Session) (todo : List Session) : Type 0 where
+pub record ClientEnds (seed : ℕ) (readers : List Bool) (t client : ℕ) (log : List EntryKind) (done : List Session) (x : Session) (todo : List Session) : Type 0 where
   after : List EntryKind
   session : Session
-  before : IsBefore readers (t + 1) client session
+  before : IsBeforeRound readers (t + 1) client session
   counts : LogCounts after
   longer : length after ≡ length log + entry_count (ending readers t client)
   leads : run (script_of seed (length readers)) (calm_state log (boards_before readers t) (done ++ x ∷ todo)) (ends readers t client)
       ≡ Some (calm_state after (boards_before readers t) (done ++ session ∷ todo))
 
 -- the list says of each program whether it only reads
-abbrev pub Knows : ℕ → List Bool → Type 0
-Knows seed readers = (number : ℕ) → number < length readers → slice_get readers number ≡ Some (reads_only seed number)
+abbrev pub KnowsReaders : ℕ → List Bool → Type 0
+KnowsReaders seed readers = (number : ℕ) → number < length readers → slice_get readers number ≡ Some (reads_only seed number)
 
 module _ (seed : ℕ) (readers : List Bool) (t client : ℕ) (log : List EntryKind) (done : List Session) (x : Session) (todo : List Session) (least : 1 ≤ client) (most : client ≤ 8) (at : client ≡ length done + 1)
-    (knows : Knows seed readers) (small : length readers ≤ 80000) (room : length log + entry_count (ending readers t client) ≤ log_len readers (t + 1)) (bound : log_len readers (t + 1) ≤ 4 * length readers)
+    (knows : KnowsReaders seed readers) (small : length readers ≤ 80000) (room : length log + entry_count (ending readers t client) ≤ log_len readers (t + 1)) (bound : log_len readers (t + 1) ≤ 4 * length readers)
     (counts : LogCounts log) (amid : IsAmid readers t client x) where
   abbrev size : ℕ
   size = length readers
@@ -101,13 +101,13 @@ module _ (seed : ℕ) (readers : List Bool) (t client : ℕ) (log : List EntryKi
   p = is_period (home client) (home_within client).at_least (home_within client).at_most
 
   abbrev Does : Type 0
-  Does = (IsIdle count x × (count ≤ turn)) ⊎ IsBusy turn count x
+  Does = (IsIdleBehind count x × (count ≤ turn)) ⊎ IsBusy turn count x
 
   here : nth (done ++ x ∷ todo) client ≡ Some x
   here = nth_middle done x todo client at
 
   -- no event
-  waits : ending readers t client ≡ None → IsBefore readers (t + 1) client x → Ends seed readers t client log done x todo
+  waits : ending readers t client ≡ None → IsBeforeRound readers (t + 1) client x → ClientEnds seed readers t client log done x todo
   waits none before = record {
     after = log;
     session = x;
@@ -118,7 +118,7 @@ module _ (seed : ℕ) (readers : List Bool) (t client : ℕ) (log : List EntryKi
   }
 
   -- a program's rounds go on
-  goes_on : is_last (home client) t ≡ false → Does → Ends seed readers t client log done x todo
+  goes_on : is_last (home client) t ≡ false → Does → ClientEnds seed readers t client log done x todo
   goes_on is does =
       let amidst = eqb-false _ _ is in
       let stays : (t + 1) / period (home client) ≡ turn = p.stays t amidst in
@@ -141,7 +141,7 @@ module _ (seed : ℕ) (readers : List Bool) (t client : ℕ) (log : List EntryKi
       let later = p.begins (t + 1) (ends_now is) in
       len_rises readers (start (home client) t) (start (home client) (t + 1)) (omega (arith, low, later))
 
-  idles : is_last (home client) t ≡ true → IsIdle count x → count ≤ turn → Ends seed readers t client log done x todo
+  idles : is_last (home client) t ≡ true → IsIdleBehind count x → count ≤ turn → ClientEnds seed readers t client log done x todo
   idles is idle past =
       let turns = p.turns t (ends_now is) in
       waits (rw (is, get_beyond readers (number_in client t) (omega (arith, past, least, most))) refl) (record {
@@ -153,7 +153,7 @@ module _ (seed : ℕ) (readers : List Bool) (t client : ℕ) (log : List EntryKi
   ending_is is few = rw (is, knows number (omega (arith, few, least, most))) refl
 
   -- what the program leaves
-  left : (snap : ℕ) → Leaves (reads_only seed number) (2 * length log + 2) (effects_of seed size number log snap).writes
+  left : (snap : ℕ) → ProgramLeaves (reads_only seed number) (2 * length log + 2) (effects_of seed size number log snap).writes
   left snap = program_leaves seed number (2 * length log) (live (shape_for size) log snap) (omega (arith, room, bound, small)) (λ key low. live_counts (2 * length log) (shape_for size) log snap key low counts)
 
   waiting : (busy : IsBusy turn count x) → pending (script_of seed size) s client ≡ Some (effects_of seed size number log busy.snap)
@@ -166,11 +166,11 @@ module _ (seed : ℕ) (readers : List Bool) (t client : ℕ) (log : List EntryKi
   begun busy = passes seed size client log boards (done ++ x ∷ todo) x (λ home session. is_begun session.phase) least most here ∙ ap is_begun busy.phase
 
   -- idle again, with one program more behind
-  idle_again : is_last (home client) t ≡ true → IsBusy turn count x → IsIdle (min (turn_in (t + 1) client) count) (at_next_program x)
+  idle_again : is_last (home client) t ≡ true → IsBusy turn count x → IsIdleBehind (min (turn_in (t + 1) client) count) (at_next_program x)
   idle_again is busy = let turns = p.turns t (ends_now is) in record { phase = refl; next = let n = busy.next in let few = busy.left in omega (arith, n, few, turns) }
 
   -- a program that only read ends by itself
-  finishes : is_last (home client) t ≡ true → IsBusy turn count x → reads_only seed number ≡ true → Ends seed readers t client log done x todo
+  finishes : is_last (home client) t ≡ true → IsBusy turn count x → reads_only seed number ≡ true → ClientEnds seed readers t client log done x todo
   finishes is busy reads =
       let quiet : leaves_write (script_of seed size) s client ≡ false = wrote busy ∙ ap (λ (ws : List Write). nat_lt 0 (length ws)) ((left busy.snap).none reads) in
       let may : may_happen (script_of seed size) s (End client) ≡ true = λ i. begun busy i && not (quiet i) in
@@ -186,7 +186,7 @@ module _ (seed : ℕ) (readers : List Bool) (t client : ℕ) (log : List EntryKi
       }
 
   -- a program that wrote is appended
-  appends : is_last (home client) t ≡ true → IsBusy turn count x → reads_only seed number ≡ false → Ends seed readers t client log done x todo
+  appends : is_last (home client) t ≡ true → IsBusy turn count x → reads_only seed number ≡ false → ClientEnds seed readers t client log done x todo
   appends is busy reads =
       let leaves = left busy.snap in
       let effects : Effects = effects_of seed size number log busy.snap in
@@ -215,16 +215,16 @@ module _ (seed : ℕ) (readers : List Bool) (t client : ℕ) (log : List EntryKi
         leads = rw ends_so (run_one (script_of seed size) s (Append client) may ∙ ap (λ n. Some n) next_is);
       }
 
-  ends_by : is_last (home client) t ≡ true → IsBusy turn count x → (r : Bool) → reads_only seed number ≡ r → Ends seed readers t client log done x todo
+  ends_by : is_last (home client) t ≡ true → IsBusy turn count x → (r : Bool) → reads_only seed number ≡ r → ClientEnds seed readers t client log done x todo
   ends_by is busy true reads = finishes is busy reads
   ends_by is busy false reads = appends is busy reads
 
-  go : (b : Bool) → is_last (home client) t ≡ b → Does → Ends seed readers t client log done x todo
+  go : (b : Bool) → is_last (home client) t ≡ b → Does → ClientEnds seed readers t client log done x todo
   go false is does = goes_on is does
   go true is (inl (idle, past)) = idles is idle past
   go true is (inr busy) = ends_by is busy (reads_only seed number) refl
 
-  one_ends : Ends seed readers t client log done x todo
+  one_ends : ClientEnds seed readers t client log done x todo
   one_ends = go (is_last (home client) t) refl amid.does
 
 -- ---- all clients
@@ -236,14 +236,14 @@ appends_of readers t client n = sum_by (λ c. entry_count (ending readers t c)) 
 pub record AllEnd (seed : ℕ) (readers : List Bool) (t client : ℕ) (log : List EntryKind) (done todo : List Session) : Type 0 where
   pub after : List EntryKind
   pub sessions : List Session
-  pub before : AreAll (IsBefore readers (t + 1)) client sessions
+  pub before : AreAll (IsBeforeRound readers (t + 1)) client sessions
   pub count : length sessions ≡ length todo
   pub counts : LogCounts after
   pub longer : length after ≡ length log + appends_of readers t client (length todo)
   pub leads : run (script_of seed (length readers)) (calm_state log (boards_before readers t) (done ++ todo)) (flat_map (ends readers t) (range_with_len client (length todo)))
       ≡ Some (calm_state after (boards_before readers t) (done ++ sessions))
 
-pub all_end : (seed : ℕ) (readers : List Bool) (t client : ℕ) (log : List EntryKind) (done todo : List Session) → Knows seed readers → length readers ≤ 80000 → log_len readers (t + 1) ≤ 4 * length readers
+pub all_end : (seed : ℕ) (readers : List Bool) (t client : ℕ) (log : List EntryKind) (done todo : List Session) → KnowsReaders seed readers → length readers ≤ 80000 → log_len readers (t + 1) ≤ 4 * length readers
     → client ≡ length done + 1 → length done + length todo ≤ 8 → length log + appends_of readers t client (length todo) ≤ log_len readers (t + 1) → LogCounts log → AreAll (IsAmid readers t) client todo
     → AllEnd seed readers t client log done todo
 all_end seed readers t client log done [] knows small bound at all room counts amid = record { after = log; sessions = []; before = tt; count = refl; counts = counts; longer = omega arith; leads = refl }

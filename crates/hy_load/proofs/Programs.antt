@@ -103,19 +103,19 @@ more_pairs bound pairs p key low = go (value_in pairs key) (p key low)
     go (Some v) h = (h.0, omega (arith, h.1), h.2)
 
 -- what a program leaves that only reads, or doesn't
-pub record Leaves (reads : Bool) (bound : ℕ) (ws : List Write) : Type 0 where
+pub record ProgramLeaves (reads : Bool) (bound : ℕ) (ws : List Write) : Type 0 where
   pub none : reads ≡ true → ws ≡ []
   pub some : reads ≡ false → 0 < length ws
   pub counts : WritesCount bound ws
 
-put_leaves : (bound : ℕ) (ws : List Write) → IsPut bound ws → Leaves false bound ws
+put_leaves : (bound : ℕ) (ws : List Write) → IsPut bound ws → ProgramLeaves false bound ws
 put_leaves bound ws p = record { none = λ e. cc e; some = λ e. p.some; counts = p.counts }
 
-value_leaves : (bound key : ℕ) (v : List ℕ) → Leaves false bound (record { key = 500 + key; value = Some v } ∷ [])
+value_leaves : (bound key : ℕ) (v : List ℕ) → ProgramLeaves false bound (record { key = 500 + key; value = Some v } ∷ [])
 value_leaves bound key v = record { none = λ e. cc e; some = λ e. omega arith; counts = (λ low. absurd (omega (arith, low)), tt) }
 
 by_kind : (number kind key other bound : ℕ) (pairs : List Pair) → kind < 4 → key < 500 → other < 500 → bound + 2 < 2 ^ 64 → PairsCount bound pairs
-    → Leaves (kind == 3) (bound + 2) (perform_all pairs no_effects (commands_by number kind key other)).1.writes
+    → ProgramLeaves (kind == 3) (bound + 2) (perform_all pairs no_effects (commands_by number kind key other)).1.writes
 by_kind number zero key other bound pairs few low lower small p =
     let first = perform pairs no_effects (Add key 1) in
     let one : IsPut (bound + 1) first.1.writes = add_put bound key pairs no_effects low (omega (arith, small)) p tt in
@@ -127,6 +127,6 @@ by_kind number (suc (suc zero)) key other bound pairs few low lower small p = va
 by_kind number (suc (suc (suc zero))) key other bound pairs few low lower small p = record { none = λ e. refl; some = λ e. cc e; counts = tt }
 by_kind number (suc (suc (suc (suc n)))) key other bound pairs few low lower small p = absurd (omega (arith, few))
 
-pub program_leaves : (seed number bound : ℕ) (pairs : List Pair) → bound + 2 < 2 ^ 64 → PairsCount bound pairs → Leaves (reads_only seed number) (bound + 2) (exec (program_numbered seed number) pairs).1.writes
+pub program_leaves : (seed number bound : ℕ) (pairs : List Pair) → bound + 2 < 2 ^ 64 → PairsCount bound pairs → ProgramLeaves (reads_only seed number) (bound + 2) (exec (program_numbered seed number) pairs).1.writes
 program_leaves seed number bound pairs small p =
     let d : Draw = draw_of seed number in by_kind number (d.kind % 4) (d.first % 500) (d.second % 500) bound pairs (omega arith) (omega arith) (omega arith) small p

@@ -14,14 +14,14 @@ use Rattle.hy_load.specs.Laws.{LogCounts}
 use Rattle.hy_load.proofs.Begins.{all_begin}
 use Rattle.hy_load.proofs.Bounds.{first_len, len_at_most, next_len, whole_least}
 use Rattle.hy_load.proofs.Closes.{all_publish, padded}
-use Rattle.hy_load.proofs.Ends.{Knows, all_end, appends_of}
+use Rattle.hy_load.proofs.Ends.{KnowsReaders, all_end, appends_of}
 use Rattle.hy_load.proofs.Spots.{run_both}
-use Rattle.hy_load.proofs.Steady.{AreAll, IsBefore, boards_before, calm_state}
+use Rattle.hy_load.proofs.Steady.{AreAll, IsBeforeRound, boards_before, calm_state}
 
 -- the state before a round
-pub record IsSteady (readers : List Bool) (t : ℕ) (log : List EntryKind) (sessions : List Session) : Type 0 where
+pub record IsSteadyRound (readers : List Bool) (t : ℕ) (log : List EntryKind) (sessions : List Session) : Type 0 where
   pub count : length sessions ≡ 8
-  pub before : AreAll (IsBefore readers t) 1 sessions
+  pub before : AreAll (IsBeforeRound readers t) 1 sessions
   pub long : length log ≡ log_len readers t
   pub counts : LogCounts log
 
@@ -29,10 +29,10 @@ pub record IsSteady (readers : List Bool) (t : ℕ) (log : List EntryKind) (sess
 pub record Reaches (seed : ℕ) (readers : List Bool) (s : State) (events : List Event) (t : ℕ) : Type 0 where
   pub log : List EntryKind
   pub sessions : List Session
-  pub steady : IsSteady readers t log sessions
+  pub steady : IsSteadyRound readers t log sessions
   pub leads : run (script_of seed (length readers)) s events ≡ Some (calm_state log (boards_before readers t) sessions)
 
-pub one_round : (seed : ℕ) (readers : List Bool) (t : ℕ) (log : List EntryKind) (sessions : List Session) → Knows seed readers → length readers ≤ 80000 → IsSteady readers t log sessions
+pub one_round : (seed : ℕ) (readers : List Bool) (t : ℕ) (log : List EntryKind) (sessions : List Session) → KnowsReaders seed readers → length readers ≤ 80000 → IsSteadyRound readers t log sessions
     → Reaches seed readers (calm_state log (boards_before readers t) sessions) (events_in readers t) (t + 1)
 one_round seed readers t log sessions knows small steady =
     let script = script_of seed (length readers) in
@@ -58,14 +58,14 @@ one_round seed readers t log sessions knows small steady =
           (run_both script _ _ _ (pads (log_len readers t + total)) _ (ap (λ n. run script (calm_state ended.after (boards_before readers t) ended.sessions) (pads n)) (sym full) ∙ whole_log.leads) published));
     }
 
-pub all_rounds : (seed : ℕ) (readers : List Bool) (n t : ℕ) (log : List EntryKind) (sessions : List Session) → Knows seed readers → length readers ≤ 80000 → IsSteady readers t log sessions
+pub all_rounds : (seed : ℕ) (readers : List Bool) (n t : ℕ) (log : List EntryKind) (sessions : List Session) → KnowsReaders seed readers → length readers ≤ 80000 → IsSteadyRound readers t log sessions
     → Reaches seed readers (calm_state log (boards_before readers t) sessions) (flat_map (events_in readers) (range_with_len t n)) (t + n)
 all_rounds seed readers zero t log sessions knows small steady =
     let same : t ≡ t + 0 = omega arith in
     record {
       log = log;
       sessions = sessions;
-      steady = subst (λ (k : ℕ). IsSteady readers k log sessions) same steady;
+      steady = subst (λ (k : ℕ). IsSteadyRound readers k log sessions) same steady;
       leads = ap (λ k. Some (calm_state log (boards_before readers k) sessions)) same;
     }
 all_rounds seed readers (suc n) t log sessions knows small steady =
@@ -75,13 +75,13 @@ all_rounds seed readers (suc n) t log sessions knows small steady =
     record {
       log = rest.log;
       sessions = rest.sessions;
-      steady = subst (λ (k : ℕ). IsSteady readers k rest.log rest.sessions) same rest.steady;
+      steady = subst (λ (k : ℕ). IsSteadyRound readers k rest.log rest.sessions) same rest.steady;
       leads = run_both (script_of seed (length readers)) _ _ _ (events_in readers t) (flat_map (events_in readers) (range_with_len (t + 1) n)) one.leads rest.leads ∙ ap (λ k. Some (calm_state rest.log (boards_before readers k) rest.sessions)) same;
     }
 
 -- ---- the opening
 
-at_first : (readers : List Bool) (client : ℕ) → 1 ≤ client → client ≤ 8 → IsBefore readers 0 client fresh_session
+at_first : (readers : List Bool) (client : ℕ) → 1 ≤ client → client ≤ 8 → IsBeforeRound readers 0 client fresh_session
 at_first readers client least most =
     record {
       last = omega arith;
@@ -92,7 +92,7 @@ pub opens : (seed : ℕ) (readers : List Bool) → opening_of (script_of seed (l
 unfolding log_len
 opens seed readers = refl
 
-pub steady_first : (readers : List Bool) → IsSteady readers 0 [] (replicate 8 fresh_session)
+pub steady_first : (readers : List Bool) → IsSteadyRound readers 0 [] (replicate 8 fresh_session)
 steady_first readers = record {
   count = refl;
   before = (

@@ -13,7 +13,7 @@ use Rattle.hy_gen.specs.Load.{schedule_of, script_of}
 use Rattle.hy_gen.specs.Rounds.{round_count, schedule}
 use Rattle.hy_load.specs.Laws.{LogCounts, ScheduleIsEnabled, ScheduleLeads}
 use Rattle.hy_load.proofs.Bounds.{len_at_most}
-use Rattle.hy_load.proofs.Ends.{Knows}
+use Rattle.hy_load.proofs.Ends.{KnowsReaders}
 use Rattle.hy_load.proofs.Rounds.{all_rounds, opens, steady_first}
 use Rattle.hy_load.proofs.Spots.{get_ranged}
 use Rattle.hy_load.proofs.Steady.{boards_before, calm_state}
@@ -22,20 +22,20 @@ use Rattle.hy_load.proofs.Steady.{boards_before, calm_state}
 abbrev readers_of : ℕ → ℕ → List Bool
 readers_of seed size = map (reads_only seed) (range_with_len 0 size)
 
-knows_all : (seed size : ℕ) → Knows seed (readers_of seed size)
+knows_all : (seed size : ℕ) → KnowsReaders seed (readers_of seed size)
 knows_all seed size number below =
     let count : length (readers_of seed size) ≡ size = length-map-range_with_len (reads_only seed) 0 size in
     let at : 0 + number ≡ number = omega arith in
     get_ranged (reads_only seed) 0 size number (omega (arith, below, count)) ∙ ap (λ n. Some (reads_only seed n)) at
 
 -- the end of the schedule
-record Ends (seed size : ℕ) : Type 0 where
+record ScheduleEnds (seed size : ℕ) : Type 0 where
   end : State
   leads : run (script_of seed size) (opening_of (script_of seed size) []) (schedule_of seed size) ≡ Some end
   long : length end.log ≤ 4 * size
   counts : LogCounts end.log
 
-ends : (seed size : ℕ) → IsLoadSize size → Ends seed size
+ends : (seed size : ℕ) → IsLoadSize size → ScheduleEnds seed size
 ends seed size within =
     let readers = readers_of seed size in
     let count : length readers ≡ size = length-map-range_with_len (reads_only seed) 0 size in

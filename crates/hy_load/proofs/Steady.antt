@@ -86,7 +86,7 @@ abbrev pub turn_in : ℕ → ℕ → ℕ
 turn_in t client = t / period (home client)
 
 -- idle, with so many programs behind it; begun with such a one
-pub record IsIdle (behind : ℕ) (x : Session) : Type 0 where
+pub record IsIdleBehind (behind : ℕ) (x : Session) : Type 0 where
   pub phase : x.phase ≡ Idle
   pub next : x.next ≡ suc behind
 
@@ -97,15 +97,15 @@ pub record IsBusy (behind count : ℕ) (x : Session) : Type 0 where
   pub left : behind < count
 
 -- a client's session before a round: idle, but in the midst of a program's rounds
-pub record IsBefore (readers : List Bool) (t client : ℕ) (x : Session) : Type 0 where
+pub record IsBeforeRound (readers : List Bool) (t client : ℕ) (x : Session) : Type 0 where
   pub last : x.last ≤ board_before readers t (home client)
-  pub does : (IsIdle (min (turn_in t client) (program_count (length readers) client)) x × ((t % period (home client) ≡ 0) ⊎ (program_count (length readers) client ≤ turn_in t client)))
+  pub does : (IsIdleBehind (min (turn_in t client) (program_count (length readers) client)) x × ((t % period (home client) ≡ 0) ⊎ (program_count (length readers) client ≤ turn_in t client)))
       ⊎ (IsBusy (turn_in t client) (program_count (length readers) client) x × (t % period (home client) ≡ 0 → ⊥))
 
 -- and once programs have begun in the round: idle only where it has no program more
 pub record IsAmid (readers : List Bool) (t client : ℕ) (x : Session) : Type 0 where
   pub last : x.last ≤ board_before readers t (home client)
-  pub does : (IsIdle (program_count (length readers) client) x × (program_count (length readers) client ≤ turn_in t client)) ⊎ IsBusy (turn_in t client) (program_count (length readers) client) x
+  pub does : (IsIdleBehind (program_count (length readers) client) x × (program_count (length readers) client ≤ turn_in t client)) ⊎ IsBusy (turn_in t client) (program_count (length readers) client) x
 
 -- the sessions of clients from a number on
 abbrev pub AreAll : (ℕ → Session → Type 0) → ℕ → List Session → Type 0

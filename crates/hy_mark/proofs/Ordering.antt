@@ -147,7 +147,7 @@ before_all x y ys right e o t =
 -- ---- joining two lists
 
 -- the marks so far, with what is left of both lists
-pub record Joins (whole_left whole_right marks left right : List Mark) : Type 0 where
+pub record MarksJoin (whole_left whole_right marks left right : List Mark) : Type 0 where
   pub deps : (key : ℕ) → lesser (dep marks key) (lesser (dep left key) (dep right key)) ≡ lesser (dep whole_left key) (dep whole_right key)
   pub left_ordered : AreOrdered (marks ++ left)
   pub right_ordered : AreOrdered (marks ++ right)
@@ -159,10 +159,10 @@ pub ordered_rest : (xs ys : List Mark) → AreOrdered (xs ++ ys) → AreOrdered 
 ordered_rest [] ys a = a
 ordered_rest (x ∷ xs) ys a = ordered_rest xs ys a.1
 
-pub joins_none : (left right : List Mark) → ArePairs left → ArePairs right → Joins left right [] left right
+pub joins_none : (left right : List Mark) → ArePairs left → ArePairs right → MarksJoin left right [] left right
 joins_none left right a b = record { deps = λ key. refl; left_ordered = a.ordered; right_ordered = b.ordered; each = tt; left_each = a.each; right_each = b.each }
 
-pub joins_more : {wl wr ms l r l' r' : List Mark} (m : Mark) → Joins wl wr ms l r → IsFirstBlock l r m l' r' → Joins wl wr (ms ++ m ∷ []) l' r'
+pub joins_more : {wl wr ms l r l' r' : List Mark} (m : Mark) → MarksJoin wl wr ms l r → IsFirstBlock l r m l' r' → MarksJoin wl wr (ms ++ m ∷ []) l' r'
 joins_more {wl} {wr} {ms} {l} {r} {l'} {r'} m j f =
     let o = f.ordered ms j.left_ordered j.right_ordered in
     let b = f.blocks j.left_each j.right_each in
@@ -177,7 +177,7 @@ joins_more {wl} {wr} {ms} {l} {r} {l'} {r'} m j f =
       right_each = b.2;
     }
 
-pub joins_all : {wl wr ms l r : List Mark} → Joins wl wr ms l r → l ≡ [] → r ≡ [] → ArePairs ms × ((key : ℕ) → dep ms key ≡ lesser (dep wl key) (dep wr key))
+pub joins_all : {wl wr ms l r : List Mark} → MarksJoin wl wr ms l r → l ≡ [] → r ≡ [] → ArePairs ms × ((key : ℕ) → dep ms key ≡ lesser (dep wl key) (dep wr key))
 joins_all {wl} {wr} {ms} {l} {r} j e f = (
   record { ordered = rw append-nil at (rw e at j.left_ordered); each = j.each },
   λ key. sym (lesser_none (dep ms key)) ∙ (rw (e, f) at j.deps key),

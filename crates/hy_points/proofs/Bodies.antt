@@ -11,7 +11,7 @@ use Rattle.hy_base.specs.Value.{IsValue}
 use Rattle.hy_base.specs.Rows.{Each, IsOrdered}
 use Rattle.hy_formats.specs.declared.damage.Damage.TheVariants as damage
 use Rattle.hy_formats.specs.Reading.{AreBytes, ◌>>=◌, requiring, items_at}
-use Rattle.hy_codec.proofs.Numbers.{Takes, then_takes, bind_ok, ok_is, required}
+use Rattle.hy_codec.proofs.Numbers.{ReaderTakes, then_takes, bind_ok, ok_is, required}
 use Rattle.hy_codec.proofs.Items.{items_take, items_again}
 use Rattle.hy_formats.specs.Checkpoint.{Checkpoint, IsCheckpoint}
 use Rattle.hy_formats.specs.PointFormat.{PointHead, IsStorable, row_bytes, flag_bytes, body_bytes, point_head_at, saved_row_at, flag_at, checkpoint_by, point_body_at, whole_point_body}
@@ -29,21 +29,21 @@ good_rows base (r ∷ rows) keys writers values = (record { key = keys.0; writer
 
 -- what reading a body took
 pub record BodyTakes (s : Shape) (bytes : List ℕ) (x : Checkpoint × List ℕ) : Type 0 where
-  pub takes : Takes bytes (body_bytes x.0) x.1
+  pub takes : ReaderTakes bytes (body_bytes x.0) x.1
   pub shape_is : x.0.shape ≡ s
   pub valid : IsCheckpoint x.0
   pub keys : Each (λ r. r.key < 2 ^ 64) x.0.rows
   pub values : Each (λ r. IfSome r.value IsValue) x.0.rows
   pub count : length x.0.rows < 2 ^ 64
 
-made : (s : Shape) (h : PointHead) (rows : List Row) (flags : List Bool) (bytes rest : List ℕ) → IsGoodShape s → IsGoodHead s h → Takes bytes (head_text s h ++ (flat_map row_bytes rows ++ flat_map flag_bytes flags)) rest
+made : (s : Shape) (h : PointHead) (rows : List Row) (flags : List Bool) (bytes rest : List ℕ) → IsGoodShape s → IsGoodHead s h → ReaderTakes bytes (head_text s h ++ (flat_map row_bytes rows ++ flat_map flag_bytes flags)) rest
     → length rows ≡ h.count → length flags ≡ h.position - h.base → Each (IsGoodRow h.base) rows → IsOrdered rows → BodyTakes s bytes (checkpoint_by s h rows flags, rest)
 unfolding body_bytes
 made s h rows flags bytes rest shape good took n_rows n_flags rows_good ordered =
     let text : head_text s h ++ (flat_map row_bytes rows ++ flat_map flag_bytes flags) ≡ body_bytes (checkpoint_by s h rows flags) = rw (← n_rows) refl in
     let before : h.base ≤ h.position = omega (arith, good.base_is, base_is_before s h.position) in
     record {
-      takes = subst (λ (t : List ℕ). Takes bytes t rest) text took;
+      takes = subst (λ (t : List ℕ). ReaderTakes bytes t rest) text took;
       shape_is = refl;
       valid = record {
         good = shape;

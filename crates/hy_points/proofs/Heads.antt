@@ -9,7 +9,7 @@ use Rattle.hy_formats.specs.declared.damage.Damage.{Damage}
 use Rattle.hy_formats.specs.declared.damage.Damage.TheVariants as damage
 use Rattle.hy_formats.specs.Reading.{AreBytes, Refusal, ◌>>=◌, requiring, number_at, ranged_at}
 use Rattle.hy_codec.proofs.Values.{both}
-use Rattle.hy_codec.proofs.Numbers.{Takes, then_takes, bind_ok, ok_is, required, wide32, wide64, number_takes, number_again, ranged_takes, ranged_again, within_is, is_within_of, byte_takes, byte_again}
+use Rattle.hy_codec.proofs.Numbers.{ReaderTakes, then_takes, bind_ok, ok_is, required, wide32, wide64, number_takes, number_again, ranged_takes, ranged_again, within_is, is_within_of, byte_takes, byte_again}
 use Rattle.hy_formats.specs.Checkpoint.{base_behind}
 use Rattle.hy_formats.specs.PointFormat.{PointHead, position_at, point_head_at}
 
@@ -28,13 +28,13 @@ pub record IsGoodHead (s : Shape) (h : PointHead) : Type 0 where
 
 -- ---- a field that has one value
 
-same_byte_takes : (n : ℕ) (why : Damage) (bytes : List ℕ) (x : ℕ × List ℕ) → AreBytes bytes → ranged_at w8 n n why bytes ≡ Ok x → Takes bytes (n ∷ []) x.1
+same_byte_takes : (n : ℕ) (why : Damage) (bytes : List ℕ) (x : ℕ × List ℕ) → AreBytes bytes → ranged_at w8 n n why bytes ≡ Ok x → ReaderTakes bytes (n ∷ []) x.1
 same_byte_takes n why bytes x fits e =
     let t = byte_takes n n why bytes x fits e in
     let is : x.0 ≡ n = omega (arith, t.1.at_least, t.1.at_most) in
-    subst (λ (k : ℕ). Takes bytes (k ∷ []) x.1) is t.0
+    subst (λ (k : ℕ). ReaderTakes bytes (k ∷ []) x.1) is t.0
 
-same_takes : (n : ℕ) (why : Damage) (bytes : List ℕ) (x : ℕ × List ℕ) → AreBytes bytes → ranged_at w32 n n why bytes ≡ Ok x → Takes bytes (to_le_bytes w32 x.0) x.1 × (x.0 < 2 ^ 32) × (x.0 ≡ n)
+same_takes : (n : ℕ) (why : Damage) (bytes : List ℕ) (x : ℕ × List ℕ) → AreBytes bytes → ranged_at w32 n n why bytes ≡ Ok x → ReaderTakes bytes (to_le_bytes w32 x.0) x.1 × (x.0 < 2 ^ 32) × (x.0 ≡ n)
 same_takes n why bytes x fits e =
     let t = ranged_takes w32 (2 ^ 32) wide32 n n why bytes x fits e in
     let within = within_is n n x.0 t.2 in
@@ -49,7 +49,7 @@ abbrev is_end : Shape → ℕ → Bool
 is_end s position = (position % s.group == 0) && nat_le position s.cap
 
 abbrev PositionTakes : Shape → List ℕ → ℕ × List ℕ → Type 0
-PositionTakes s bytes x = Takes bytes (to_le_bytes w32 x.0) x.1 × (x.0 < 2 ^ 32) × (is_end s x.0 ≡ true)
+PositionTakes s bytes x = ReaderTakes bytes (to_le_bytes w32 x.0) x.1 × (x.0 < 2 ^ 32) × (is_end s x.0 ≡ true)
 
 position_takes : (s : Shape) (bytes : List ℕ) (x : ℕ × List ℕ) → AreBytes bytes → position_at s bytes ≡ Ok x → PositionTakes s bytes x
 unfolding position_at
@@ -80,7 +80,7 @@ record BaseTakes (s : Shape) (position : ℕ) (bytes : List ℕ) (x : PointHead 
   base : ℕ
   count : ℕ
   is : head_by position base count ≡ x.0
-  takes : Takes bytes (to_le_bytes w32 base ++ to_le_bytes w64 count) x.1
+  takes : ReaderTakes bytes (to_le_bytes w32 base ++ to_le_bytes w64 count) x.1
   base_is : base ≡ base_behind s position
   base_fits : base < 2 ^ 32
   count_fits : count < 2 ^ 64
@@ -96,16 +96,16 @@ base_takes s position bytes x fits e =
       base = a.0.0;
       count = b.0.0;
       is = ap (λ (y : PointHead × List ℕ). y.0) made;
-      takes = subst (Takes bytes (to_le_bytes w32 a.0.0 ++ to_le_bytes w64 b.0.0)) (ap (λ (y : PointHead × List ℕ). y.1) made) (then_takes bytes (to_le_bytes w32 a.0.0) a.0.1 (to_le_bytes w64 b.0.0) b.0.1 t.0 u.0);
+      takes = subst (ReaderTakes bytes (to_le_bytes w32 a.0.0 ++ to_le_bytes w64 b.0.0)) (ap (λ (y : PointHead × List ℕ). y.1) made) (then_takes bytes (to_le_bytes w32 a.0.0) a.0.1 (to_le_bytes w64 b.0.0) b.0.1 t.0 u.0);
       base_is = t.2;
       base_fits = t.1;
       count_fits = u.1;
     }
 
 abbrev pub HeadTakes : Shape → List ℕ → PointHead × List ℕ → Type 0
-HeadTakes s bytes x = Takes bytes (head_text s x.0) x.1 × IsGoodHead s x.0
+HeadTakes s bytes x = ReaderTakes bytes (head_text s x.0) x.1 × IsGoodHead s x.0
 
-behind_shape : (s : Shape) (bytes rest : List ℕ) (x : PointHead × List ℕ) → Takes bytes (s.group ∷ s.window ∷ []) rest → after_shape s rest ≡ Ok x → HeadTakes s bytes x
+behind_shape : (s : Shape) (bytes rest : List ℕ) (x : PointHead × List ℕ) → ReaderTakes bytes (s.group ∷ s.window ∷ []) rest → after_shape s rest ≡ Ok x → HeadTakes s bytes x
 behind_shape s bytes rest x taken e =
     let a = bind_ok (position_at s rest) (λ position. after_position s position.0 position.1) x e in
     let t = position_takes s rest a.0 taken.rest_fits a.1 in
@@ -113,9 +113,9 @@ behind_shape s bytes rest x taken e =
     let ends = both (a.0.0 % s.group == 0) (nat_le a.0.0 s.cap) t.2 in
     let h = head_by a.0.0 b.base b.count in
     let tail = then_takes rest (to_le_bytes w32 a.0.0) a.0.1 (to_le_bytes w32 b.base ++ to_le_bytes w64 b.count) x.1 t.0 b.takes in
-    let whole : Takes bytes (head_text s h) x.1 = then_takes bytes (s.group ∷ s.window ∷ []) rest (to_le_bytes w32 a.0.0 ++ (to_le_bytes w32 b.base ++ to_le_bytes w64 b.count)) x.1 taken tail in
+    let whole : ReaderTakes bytes (head_text s h) x.1 = then_takes bytes (s.group ∷ s.window ∷ []) rest (to_le_bytes w32 a.0.0 ++ (to_le_bytes w32 b.base ++ to_le_bytes w64 b.count)) x.1 taken tail in
     let good : IsGoodHead s h = record { fits = t.1; whole = eqb-true (a.0.0 % s.group) 0 ends.0; within = le_of a.0.0 s.cap ends.1; base_is = b.base_is; base_fits = b.base_fits; count = b.count_fits } in
-    subst (λ (g : PointHead). Takes bytes (head_text s g) x.1 × IsGoodHead s g) b.is (whole, good)
+    subst (λ (g : PointHead). ReaderTakes bytes (head_text s g) x.1 × IsGoodHead s g) b.is (whole, good)
 
 pub head_takes : (s : Shape) (bytes : List ℕ) (x : PointHead × List ℕ) → AreBytes bytes → point_head_at s bytes ≡ Ok x → HeadTakes s bytes x
 unfolding point_head_at

@@ -12,7 +12,7 @@ use Rattle.hy_formats.specs.declared.damage.Damage.TheVariants as damage
 use Rattle.hy_formats.specs.Reading.{AreBytes, ◌>>=◌, ranged_at, may_follow}
 use Rattle.hy_formats.specs.EntryFormat.{value_bytes, key_at, value_at}
 use Rattle.hy_codec.proofs.Values.{both}
-use Rattle.hy_codec.proofs.Numbers.{Takes, then_takes, bind_ok, ok_is, wide32, ranged_takes, ranged_again, within_is, is_within_of, byte_takes, byte_again}
+use Rattle.hy_codec.proofs.Numbers.{ReaderTakes, then_takes, bind_ok, ok_is, wide32, ranged_takes, ranged_again, within_is, is_within_of, byte_takes, byte_again}
 use Rattle.hy_codec.proofs.Items.{rises_from}
 use Rattle.hy_codec.proofs.Parts.{key_takes, key_again, value_takes, value_again}
 use Rattle.hy_formats.specs.PointFormat.{row_bytes, flag_bytes, saved_row_at, flag_at}
@@ -25,7 +25,7 @@ pub record IsGoodRow (base : ℕ) (r : Row) : Type 0 where
   pub value : IfSome r.value IsValue
 
 abbrev RowTakes : ℕ → Option ℕ → List ℕ → Row × List ℕ → Type 0
-RowTakes base last bytes x = Takes bytes (row_bytes x.0) x.1 × IsGoodRow base x.0 × (may_follow nat_lt last x.0.key ≡ true)
+RowTakes base last bytes x = ReaderTakes bytes (row_bytes x.0) x.1 × IsGoodRow base x.0 × (may_follow nat_lt last x.0.key ≡ true)
 
 pub row_takes : (base : ℕ) (last : Option ℕ) (bytes : List ℕ) (x : Row × List ℕ) → AreBytes bytes → saved_row_at base last bytes ≡ Ok x → RowTakes base last bytes x
 unfolding saved_row_at
@@ -114,7 +114,7 @@ flag_number n true few e = ap (λ (k : ℕ). k ∷ []) (sym (eqb-true n 1 e))
 flag_number n false few e = let none : n ≡ 0 = grind (arith, few, e) in ap (λ (k : ℕ). k ∷ []) (sym none)
 
 abbrev FlagTakes : Option Bool → List ℕ → Bool × List ℕ → Type 0
-FlagTakes last bytes x = Takes bytes (flag_bytes x.0) x.1 × IsFlag x.0 × (may_follow any_order last x.0 ≡ true)
+FlagTakes last bytes x = ReaderTakes bytes (flag_bytes x.0) x.1 × IsFlag x.0 × (may_follow any_order last x.0 ≡ true)
 
 pub flag_takes : (last : Option Bool) (bytes : List ℕ) (x : Bool × List ℕ) → AreBytes bytes → flag_at last bytes ≡ Ok x → FlagTakes last bytes x
 unfolding flag_at
@@ -123,7 +123,7 @@ flag_takes last bytes x fits e =
     let t = byte_takes 0 1 damage.Flag bytes a.0 fits a.1 in
     let f : Bool = a.0.0 == 1 in
     let text : flag_bytes f ≡ a.0.0 ∷ [] = flag_number a.0.0 f t.1.at_most refl in
-    subst (FlagTakes last bytes) (ok_is (f, a.0.1) x a.2) (subst (λ (l : List ℕ). Takes bytes l a.0.1) (sym text) t.0, tt, follows_any last f)
+    subst (FlagTakes last bytes) (ok_is (f, a.0.1) x a.2) (subst (λ (l : List ℕ). ReaderTakes bytes l a.0.1) (sym text) t.0, tt, follows_any last f)
 
 pub flag_again : (f : Bool) (last : Option Bool) (rest : List ℕ) → IsFlag f → may_follow any_order last f ≡ true → flag_at last (flag_bytes f ++ rest) ≡ Ok (f, rest)
 unfolding flag_at

@@ -57,24 +57,24 @@ pub take_next : {X : Type 0} (xs : List X) (i : ℕ) (x : X) → slice_get xs i 
 take_next xs i x is = let e : i + 1 ≡ suc i = omega arith in ap (λ (n : ℕ). take n xs) e ∙ take_one xs i x is
 
 -- Of rows from this key on the first is the one at this place, if there is one.
-pub record IsNext (rows : List Row) (count from : ℕ) : Type 0 where
+pub record IsNextRow (rows : List Row) (count from : ℕ) : Type 0 where
   pub first : count < length rows → first_from from rows ≡ slice_get rows count
 
-pub from_start : (rows : List Row) → IsNext rows 0 0
+pub from_start : (rows : List Row) → IsNextRow rows 0 0
 from_start rows = record { first = λ some. first_of_all rows }
 
 -- as long as rows are left there is a next one
-pub is_there : (rows : List Row) (count from : ℕ) → IsNext rows count from → count < length rows → first_from from rows ≡ None → ⊥
+pub is_there : (rows : List Row) (count from : ℕ) → IsNextRow rows count from → count < length rows → first_from from rows ≡ None → ⊥
 is_there rows count from next within none = let s = some_at rows count within in let both = sym none ∙ next.first within ∙ s.1 in absurd cc
 
-module _ (rows : List Row) (count from from' : ℕ) (r : Row) (valid : AreRows rows) (within : count < length rows) (now : IsNext rows count from) (found : first_from from rows ≡ Some r) (behind : from' ≡ min (r.key + 1) (2 ^ 64 - 1)) where
+module _ (rows : List Row) (count from from' : ℕ) (r : Row) (valid : AreRows rows) (within : count < length rows) (now : IsNextRow rows count from) (found : first_from from rows ≡ Some r) (behind : from' ≡ min (r.key + 1) (2 ^ 64 - 1)) where
   here : slice_get rows count ≡ Some r
   here = sym (now.first within) ∙ found
 
   pub one_row : take (count + 1) rows ≡ take count rows ++ r ∷ []
   one_row = take_next rows count r here
 
-  pub goes_behind : IsNext rows (count + 1) from'
+  pub goes_behind : IsNextRow rows (count + 1) from'
   goes_behind = record {
     first = λ more.
         let more' : suc count < length rows = omega (arith, more) in

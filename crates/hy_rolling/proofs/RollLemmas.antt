@@ -13,11 +13,11 @@ use Rattle.hy_base.specs.Log.{HaveLawfulSnaps}
 use Rattle.hy_base.specs.Rows.{newest, up_to}
 use Rattle.hy_base.proofs.ShapeLemmas.{base_before, kept_before}
 use Rattle.hy_rules.specs.Validation.{Standing, first_clash, group_writes, standings, late_conflicts, fate_of, fated, group_after, verdicts_after, history_after, rows_after}
-use Rattle.hy_rolling.specs.Rolling.{staged_members, fate_on, after_fate, Rolled, not_rolled, roll_group, roll_groups, StandsFor}
+use Rattle.hy_rolling.specs.Rolling.{staged_members, fate_on, after_fate, Rolled, not_rolled, roll_group, roll_groups, HasRolled}
 use Rattle.hy_rolling.specs.Laws.{SnapsUpTo, NewRollerStands, RollExtends, StandingIsOne}
 use Rattle.hy_rolling.proofs.Mates.{staged_are_standings}
 use Rattle.hy_rolling.proofs.Fates.{fate_known, fated_rows}
-use Rattle.hy_rolling.proofs.Windows.{Opens, Stays, next_window, opened_base, stayed_base, stayed_kept, base_low, kept_low}
+use Rattle.hy_rolling.proofs.Windows.{OpensWindow, StaysInWindow, next_window, opened_base, stayed_base, stayed_kept, base_low, kept_low}
 use Rattle.hy_rules.proofs.Growth.{history_rise, history_next, up_to_earlier, growth_keeps_rows, lawful_drop}
 use Rattle.hy_rolling.proofs.GroupSnaps.{group_snaps}
 use Rattle.hy_rules.proofs.Serial.{history_is_before}
@@ -27,11 +27,11 @@ abbrev pub roller_after : Shape → List EntryKind → ℕ → Rolled
 roller_after s log n =
     record { groups = n; tree = rows_after s log n; base_tree = rows_after s log (base_groups s n); kept = rows_after s log (kept_groups s n); verdicts = verdicts_after s log n }
 
-pub stands_is : (s : Shape) (front : List EntryKind) (r : Rolled) → StandsFor s front r → r ≡ roller_after s front r.groups
+pub stands_is : (s : Shape) (front : List EntryKind) (r : Rolled) → HasRolled s front r → r ≡ roller_after s front r.groups
 stands_is s front r st = λ j. record { groups = r.groups; tree = st.tree_is j; base_tree = st.base_is j; kept = st.kept_is j; verdicts = st.verdicts_are j }
 
-pub is_stands : (s : Shape) (front : List EntryKind) (n : ℕ) (r : Rolled) → length front ≡ s.group * n → r ≡ roller_after s front n → StandsFor s front r
-is_stands s front n r whole e = subst (StandsFor s front) (sym e) (record { whole = whole; tree_is = refl; base_is = refl; kept_is = refl; verdicts_are = refl })
+pub is_stands : (s : Shape) (front : List EntryKind) (n : ℕ) (r : Rolled) → length front ≡ s.group * n → r ≡ roller_after s front n → HasRolled s front r
+is_stands s front n r whole e = subst (HasRolled s front) (sym e) (record { whole = whole; tree_is = refl; base_is = refl; kept_is = refl; verdicts_are = refl })
 
 pub new_roller_stands : NewRollerStands
 new_roller_stands s =
@@ -101,7 +101,7 @@ module _ (s : Shape) (log : List EntryKind) (n : ℕ) (good : IsGoodShape s) (wi
   verdicts_next = (λ j. verdicts_after s log n ++ map (fated (fate_found j)) (found_own j)) ∙ ap (verdicts_after s log) one_next
 
   -- a window that opens has the kept rows as base rows, and its own first ones are kept
-  opens_next : Opens s.window n → roll_group s (roller_after s log n) part ≡ roller_after s log (n + 1)
+  opens_next : OpensWindow s.window n → roll_group s (roller_after s log n) part ≡ roller_after s log (n + 1)
   opens_next o =
       let base_is : cond ((n + 1) % s.window == 0) (rows_after s log (kept_groups s n)) (rows_after s log (base_groups s n)) ≡ rows_after s log (base_groups s (n + 1)) =
       ap (λ b. cond b (rows_after s log (kept_groups s n)) (rows_after s log (base_groups s n))) o.told ∙ ap (rows_after s log) (sym (opened_base s n o)) in
@@ -115,7 +115,7 @@ module _ (s : Shape) (log : List EntryKind) (n : ℕ) (good : IsGoodShape s) (wi
         verdicts = verdicts_next j;
       }
 
-  stays_next : Stays s.window n → roll_group s (roller_after s log n) part ≡ roller_after s log (n + 1)
+  stays_next : StaysInWindow s.window n → roll_group s (roller_after s log n) part ≡ roller_after s log (n + 1)
   stays_next o =
       let base_is : cond ((n + 1) % s.window == 0) (rows_after s log (kept_groups s n)) (rows_after s log (base_groups s n)) ≡ rows_after s log (base_groups s (n + 1)) =
       ap (λ b. cond b (rows_after s log (kept_groups s n)) (rows_after s log (base_groups s n))) o.told ∙ ap (rows_after s log) (sym (stayed_base s n o)) in
@@ -134,7 +134,7 @@ module _ (s : Shape) (log : List EntryKind) (n : ℕ) (good : IsGoodShape s) (wi
 
 -- ---- entries that follow
 
-one_extends : (s : Shape) (front es : List EntryKind) (r : Rolled) → IsGoodShape s → SnapsUpTo (s.group * r.groups) es → length es ≡ s.group → StandsFor s front r → StandsFor s (front ++ es) (roll_group s r es)
+one_extends : (s : Shape) (front es : List EntryKind) (r : Rolled) → IsGoodShape s → SnapsUpTo (s.group * r.groups) es → length es ≡ s.group → HasRolled s front r → HasRolled s (front ++ es) (roll_group s r es)
 one_extends s front es r good snaps size st =
     let n : ℕ = r.groups in
     let log : List EntryKind = front ++ es in
@@ -146,7 +146,7 @@ one_extends s front es r good snaps size st =
     is_stands s log (n + 1) (roll_group s r es) (omega (arith, all, more)) ((λ j. roll_group s (before j) (sym part j)) ∙ next)
 
 pub roll_extends : RollExtends
-roll_extends s front [] zero r good snaps size st = subst (λ es. StandsFor s es r) (sym (append-nil front)) st
+roll_extends s front [] zero r good snaps size st = subst (λ es. HasRolled s es r) (sym (append-nil front)) st
 roll_extends s front (e ∷ es) zero r good snaps size st = absurd (omega (arith, size))
 roll_extends s front es (suc k) r good snaps size st =
     let g : ℕ = s.group in
@@ -155,8 +155,8 @@ roll_extends s front es (suc k) r good snaps size st =
     let rest : List EntryKind = drop g es in
     let part_length : length part ≡ g = length-take-le g es (omega (arith, size, more)) in
     let own : SnapsUpTo (g * r.groups) part = group_snaps s r.groups es (subst (λ p. HaveLawfulSnaps s p es) st.whole snaps) in
-    let one : StandsFor s (front ++ part) (roll_group s r part) = one_extends s front part r good own part_length st in
+    let one : HasRolled s (front ++ part) (roll_group s r part) = one_extends s front part r good own part_length st in
     let place : length front + g ≡ length (front ++ part) = omega (arith, length-append front part, part_length) in
     let later : HaveLawfulSnaps s (length (front ++ part)) rest = subst (λ p. HaveLawfulSnaps s p rest) place (lawful_drop s (length front) g es snaps) in
-    subst (λ log. StandsFor s log (roll_groups s k (roll_group s r part) rest)) (append_assoc front part rest ∙ ap (λ l. front ++ l) (take-append-drop g es))
+    subst (λ log. HasRolled s log (roll_groups s k (roll_group s r part) rest)) (append_assoc front part rest ∙ ap (λ l. front ++ l) (take-append-drop g es))
     (roll_extends s (front ++ part) rest k (roll_group s r part) good later (omega (arith, length-drop g es, size, more)) one)

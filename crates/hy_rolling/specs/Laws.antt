@@ -13,7 +13,7 @@ use Rattle.hy_base.specs.Marks.{MarkSet, AreMarks, IsRaised, IsMerged, dep, late
 use Rattle.hy_rules.specs.History.{flagged_history, history_from, written_between, commits_past}
 use Rattle.hy_base.specs.Verdicts.{is_commit}
 use Rattle.hy_rules.specs.Validation.{Standing, Filling, Dropped, Joined, touched, first_clash, group_writes, standings, late_conflicts, fate_of, group_verdicts, verdicts_after, rows_after}
-use Rattle.hy_rolling.specs.Rolling.{staged_members, least_known, AreGroupMarks, after_fate, Rolled, not_rolled, roll_group, roll_groups, StandsFor, IsRolled}
+use Rattle.hy_rolling.specs.Rolling.{staged_members, least_known, AreGroupMarks, after_fate, Rolled, not_rolled, roll_group, roll_groups, HasRolled, IsRolled}
 
 -- ---- last writers
 
@@ -90,12 +90,12 @@ FinishIsRows = (committed : List Row) (base upto : ℕ) (es : List EntryKind) (m
 
 -- a new roller stands for no entries
 abbrev pub NewRollerStands : Type 0
-NewRollerStands = (s : Shape) → StandsFor s [] not_rolled
+NewRollerStands = (s : Shape) → HasRolled s [] not_rolled
 
 -- A roller that is rolled over the groups that follow stands for the longer log. Of the entries only the snapshots have to be lawful.
 abbrev pub RollExtends : Type 0
-RollExtends = (s : Shape) (front entries : List EntryKind) (k : ℕ) (r : Rolled) → IsGoodShape s → HaveLawfulSnaps s (length front) entries → length entries ≡ s.group * k → StandsFor s front r
-    → StandsFor s (front ++ entries) (roll_groups s k r entries)
+RollExtends = (s : Shape) (front entries : List EntryKind) (k : ℕ) (r : Rolled) → IsGoodShape s → HaveLawfulSnaps s (length front) entries → length entries ≡ s.group * k → HasRolled s front r
+    → HasRolled s (front ++ entries) (roll_groups s k r entries)
 
 -- however the groups are cut into rolls, the roller is the same
 abbrev pub AnyCutRollsTheSame : Type 0
@@ -103,11 +103,11 @@ AnyCutRollsTheSame = (s : Shape) (k more : ℕ) (r : Rolled) (es fs : List Entry
 
 -- rollers that stand for the same entries are one
 abbrev pub StandingIsOne : Type 0
-StandingIsOne = (s : Shape) (front : List EntryKind) (r r' : Rolled) → IsGoodShape s → StandsFor s front r → StandsFor s front r' → r ≡ r'
+StandingIsOne = (s : Shape) (front : List EntryKind) (r r' : Rolled) → IsGoodShape s → HasRolled s front r → HasRolled s front r' → r ≡ r'
 
 -- the rows of a roller that stands are in order, and grew out of its base rows and of those that it keeps
 abbrev pub StandingIsLater : Type 0
-StandingIsLater = (s : Shape) (front : List EntryKind) (r : Rolled) → StandsFor s front r → IsRolled s r
+StandingIsLater = (s : Shape) (front : List EntryKind) (r : Rolled) → HasRolled s front r → IsRolled s r
 
 -- with each further group the rows stay so, whether or not the roller stands
 abbrev pub RollKeepsLater : Type 0

@@ -92,7 +92,7 @@ roll_groups s zero r entries = r
 roll_groups s (suc k) r entries = roll_groups s k (roll_group s r (take s.group entries)) (drop s.group entries)
 
 -- It has rolled the log's first entries, all whole groups, and has what these alone decide. No later entry matters.
-pub record StandsFor (s : Shape) (front : List EntryKind) (r : Rolled) : Type 0 where
+pub record HasRolled (s : Shape) (front : List EntryKind) (r : Rolled) : Type 0 where
   pub whole : length front ≡ s.group * r.groups
   pub tree_is : r.tree ≡ rows_after s front r.groups
   pub base_is : r.base_tree ≡ rows_after s front (base_groups s r.groups)

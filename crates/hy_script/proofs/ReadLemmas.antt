@@ -20,7 +20,7 @@ use Rattle.hy_script.proofs.ScheduleLemmas.{numbered_line}
 abbrev pub cells : List Text → ℕ
 cells lines = sum_by (λ line. length line + 1) lines
 
-pub record Stands (sim : Bool) (bytes : Text) (place : PlaceCode) (number : ℕ) (rest : Text) : Type 0 where
+pub record ReadStands (sim : Bool) (bytes : Text) (place : PlaceCode) (number : ℕ) (rest : Text) : Type 0 where
   pub read : place_after_all sim AtStart (numbered_lines 1 bytes) ≡ place_after_all sim (place_of place) (numbered_lines number rest)
   pub good : IsPlace place
   pub counted : 1 ≤ number
@@ -47,7 +47,7 @@ Lengths rest line after = (length rest ≡ length line + (1 + length after)) ⊎
 offsets : (all cut rest line after : ℕ) → min all cut + rest ≡ all → 0 < rest → (rest ≡ line + (1 + after)) ⊎ ((line ≡ rest) × (after ≡ 0)) → min all (cut + (line + 1)) + after ≡ all
 offsets all cut rest line after e some lengths = grind (arith, e, some, lengths)
 
-module _ (sim : Bool) (bytes rest line after : Text) (place : PlaceCode) (number : ℕ) (s : Stands sim bytes place number rest) (cut : lines_of rest ≡ line ∷ lines_of after) (lengths : Lengths rest line after) (some : 0 < length rest) where
+module _ (sim : Bool) (bytes rest line after : Text) (place : PlaceCode) (number : ℕ) (s : ReadStands sim bytes place number rest) (cut : lines_of rest ≡ line ∷ lines_of after) (lengths : Lengths rest line after) (some : 0 < length rest) where
   shift : number + 1 - 1 ≡ number - 1 + 1
   shift = omega (arith, s.counted)
 
@@ -63,7 +63,7 @@ module _ (sim : Bool) (bytes rest line after : Text) (place : PlaceCode) (number
   shorter : length after < length rest
   shorter = grind (arith, lengths, some)
 
-  moved : (next : PlaceCode) → place_after_all sim (place_of place) (numbered_lines number rest) ≡ place_after_all sim (place_of next) (numbered_lines (number + 1) after) → IsPlace next → Stands sim bytes next (number + 1) after
+  moved : (next : PlaceCode) → place_after_all sim (place_of place) (numbered_lines number rest) ≡ place_after_all sim (place_of next) (numbered_lines (number + 1) after) → IsPlace next → ReadStands sim bytes next (number + 1) after
   moved next e good = record {
     read = s.read ∙ e;
     good = good;
@@ -75,7 +75,7 @@ module _ (sim : Bool) (bytes rest line after : Text) (place : PlaceCode) (number
     small = s.small;
   }
 
-  pub skips : is_skipped line ≡ true → Stands sim bytes place (number + 1) after
+  pub skips : is_skipped line ≡ true → ReadStands sim bytes place (number + 1) after
   skips skip = moved place (ap (place_after_all sim (place_of place)) (numbered_line number rest line after true cut skip)) s.good
 
   one_more : (next : Place) → is_skipped line ≡ false → place_after sim (place_of place) (number, line) ≡ Ok next
@@ -84,7 +84,7 @@ module _ (sim : Bool) (bytes rest line after : Text) (place : PlaceCode) (number
       ap (place_after_all sim (place_of place)) (numbered_line number rest line after false cut skip)
       ∙ ap (λ r. elim r [ Ok x ↦ place_after_all sim x (numbered_lines (number + 1) after) | Err why ↦ refused_at number why ]) e
 
-  pub reads : (next : PlaceCode) → is_skipped line ≡ false → place_after sim (place_of place) (number, line) ≡ Ok (place_of next) → IsPlace next → Stands sim bytes next (number + 1) after
+  pub reads : (next : PlaceCode) → is_skipped line ≡ false → place_after sim (place_of place) (number, line) ≡ Ok (place_of next) → IsPlace next → ReadStands sim bytes next (number + 1) after
   reads next skip e good = moved next (one_more (place_of next) skip e) good
 
 pub scheduled : (sim : Bool) (script : Workload) (start : ℕ) (lines : List (ℕ × Text)) → place_after_all sim (Scheduled script start) lines ≡ Ok (Scheduled script start)
@@ -102,7 +102,7 @@ pub whole : (sim : Bool) (bytes : Text) (read : Result Place Refused) → length
 whole sim bytes read small e =
     not_long (nat_lt 16777216 (length bytes)) (length bytes) (refused_at 0 Long) (finish bytes (place_after_all sim AtStart (numbered_lines 1 bytes))) refl small ∙ ap (finish bytes) e
 
-pub reaches : (sim : Bool) (bytes rest line after : Text) (place : PlaceCode) (number : ℕ) (script : Workload) → Stands sim bytes place number rest → lines_of rest ≡ line ∷ lines_of after → Lengths rest line after → 0 < length rest
+pub reaches : (sim : Bool) (bytes rest line after : Text) (place : PlaceCode) (number : ℕ) (script : Workload) → ReadStands sim bytes place number rest → lines_of rest ≡ line ∷ lines_of after → Lengths rest line after → 0 < length rest
     → is_skipped line ≡ false → place_after sim (place_of place) (number, line) ≡ Ok (Scheduled script number)
     → read_script bytes sim ≡ Ok (record { script = script; schedule = Some (record { offset = length bytes - length after; line = number + 1 }) })
 reaches sim bytes rest line after place number script s cut lengths some skip e =
@@ -113,16 +113,16 @@ reaches sim bytes rest line after place number script s cut lengths some skip e 
     let there : offset_after number bytes ≡ length bytes - length after = ap (λ k. min (length bytes) (cells (take k (lines_of bytes)))) (sym same) ∙ omega (arith, sum) in
     whole sim bytes (Ok (Scheduled script number)) s.small all ∙ ap (λ o. Ok (record { script = script; schedule = Some (record { offset = o; line = number + 1 }) })) there
 
-ends : (sim : Bool) (bytes rest : Text) (place : PlaceCode) (number : ℕ) → Stands sim bytes place number rest → length rest ≡ 0 → read_script bytes sim ≡ script_ended bytes (place_of place)
+ends : (sim : Bool) (bytes rest : Text) (place : PlaceCode) (number : ℕ) → ReadStands sim bytes place number rest → length rest ≡ 0 → read_script bytes sim ≡ script_ended bytes (place_of place)
 ends sim bytes [] place number s none = whole sim bytes (Ok (place_of place)) s.small s.read
 ends sim bytes (b ∷ rest) place number s none = absurd (omega (arith, none))
 
-line_count : (sim : Bool) (bytes rest : Text) (place : PlaceCode) (number : ℕ) → Stands sim bytes place number rest → length rest ≡ 0 → length (lines_of bytes) + 1 ≡ number
+line_count : (sim : Bool) (bytes rest : Text) (place : PlaceCode) (number : ℕ) → ReadStands sim bytes place number rest → length rest ≡ 0 → length (lines_of bytes) + 1 ≡ number
 line_count sim bytes [] place number s none = omega (arith, s.lines)
 line_count sim bytes (b ∷ rest) place number s none = absurd (omega (arith, none))
 
 -- no line is left
-pub finishes : (sim : Bool) (bytes rest : Text) (place : PlaceCode) (number : ℕ) (result : Result Reading ReadError) → Stands sim bytes place number rest → length rest ≡ 0
+pub finishes : (sim : Bool) (bytes rest : Text) (place : PlaceCode) (number : ℕ) (result : Result Reading ReadError) → ReadStands sim bytes place number rest → length rest ≡ 0
     → ((b : Text) → number ≡ length (lines_of b) + 1 → Reads (λ reading. reading) result (script_ended b (place_of place))) → Reads (λ reading. reading) result (read_script bytes sim)
 finishes sim bytes rest place number result s none told =
     subst (Reads (λ reading. reading) result) (sym (ends sim bytes rest place number s none)) (told bytes (sym (line_count sim bytes rest place number s none)))

@@ -54,23 +54,23 @@ said (Listing script) = script_lines script
 said (Programming script commands) = script_lines script ++ (codes "begin" ∷ []) ∷ map command_words commands
 said (Scheduled script start) = script_lines script
 
-record IsOpen (script : Workload) (commands : List Command) : Type 0 where
+record IsOpenProgram (script : Workload) (commands : List Command) : Type 0 where
   pub script_is : IsScriptSpellable script
   pub some : 0 < length script.clients
   pub room : last_program_count script.clients < 10000
   pub lawful : IsProgram (record { commands = commands })
   pub fits : AllByRecursion FitsFields commands
 
-abbrev IsReached : Place → Type 0
-IsReached AtStart = ⊤
-IsReached (Shaped shape) = IsGoodShape shape
-IsReached (Listing script) = IsScriptSpellable script
-IsReached (Programming script commands) = IsOpen script commands
-IsReached (Scheduled script start) = IsScriptSpellable script
+abbrev IsReachedPlace : Place → Type 0
+IsReachedPlace AtStart = ⊤
+IsReachedPlace (Shaped shape) = IsGoodShape shape
+IsReachedPlace (Listing script) = IsScriptSpellable script
+IsReachedPlace (Programming script commands) = IsOpenProgram script commands
+IsReachedPlace (Scheduled script start) = IsScriptSpellable script
 
 -- the place after a line, which isn't the schedule's
 abbrev Adds : List (List Text) → Text → Place → Type 0
-Adds before line place = IsReached place × (said place ≡ before ++ words_of line ∷ [])
+Adds before line place = IsReachedPlace place × (said place ≡ before ++ words_of line ∷ [])
 
 record IsScheduleLine (before : List (List Text)) (p : ℕ × Text) (script : Workload) (start : ℕ) : Type 0 where
   pub script_is : IsScriptSpellable script
@@ -78,31 +78,31 @@ record IsScheduleLine (before : List (List Text)) (p : ℕ × Text) (script : Wo
   pub number : start ≡ p.0
   pub word : words_of p.1 ≡ codes "schedule" ∷ []
 
-abbrev Follows : List (List Text) → ℕ × Text → Place → Type 0
-Follows before p AtStart = Adds before p.1 AtStart
-Follows before p (Shaped shape) = Adds before p.1 (Shaped shape)
-Follows before p (Listing script) = Adds before p.1 (Listing script)
-Follows before p (Programming script commands) = Adds before p.1 (Programming script commands)
-Follows before p (Scheduled script start) = IsScheduleLine before p script start
+abbrev LineFollows : List (List Text) → ℕ × Text → Place → Type 0
+LineFollows before p AtStart = Adds before p.1 AtStart
+LineFollows before p (Shaped shape) = Adds before p.1 (Shaped shape)
+LineFollows before p (Listing script) = Adds before p.1 (Listing script)
+LineFollows before p (Programming script commands) = Adds before p.1 (Programming script commands)
+LineFollows before p (Scheduled script start) = IsScheduleLine before p script start
 
 leading_was : {A : Type 0} (place : A → Place) (read : Result A Why) (next : Place) → leading place read ≡ Ok next → (a : A) × (read ≡ Ok a) × (place a ≡ next)
 leading_was place (Ok a) next e = (a, refl, cc (e))
 leading_was place (Err why) next e = cc
 
 module _ (sim : Bool) (p : ℕ × Text) (next : Place) where
-  from_outset : place_after sim AtStart p ≡ Ok next → Follows [] p next
+  from_outset : place_after sim AtStart p ≡ Ok next → LineFollows [] p next
   from_outset e =
       let step = leading_was Shaped (shape_line (words_of p.1)) next (shape_leads sim p.0 (words_of p.1) ∙ e) in
       let was = shape_was (words_of p.1) step.0 step.1 in
-      subst (Follows [] p) step.2 (was.good, ap (λ w. w ∷ []) (sym was.are))
+      subst (LineFollows [] p) step.2 (was.good, ap (λ w. w ∷ []) (sym was.are))
 
-  from_shaped : (shape : Shape) → IsGoodShape shape → place_after sim (Shaped shape) p ≡ Ok next → Follows (said (Shaped shape)) p next
+  from_shaped : (shape : Shape) → IsGoodShape shape → place_after sim (Shaped shape) p ≡ Ok next → LineFollows (said (Shaped shape)) p next
   from_shaped shape good e =
       let step = leading_was (served shape) (servers_line (words_of p.1)) next (servers_leads sim shape p.0 (words_of p.1) ∙ e) in
       let was = servers_was (words_of p.1) step.0 step.1 in
       let lawful : IsScript (record { shape = shape; servers = step.0; clients = [] }) =
       record { shape = good; servers = was.1; clients = λ k d below. absurd (omega (arith, below)); client_count = λ k. omega arith } in
-      subst (Follows (said (Shaped shape)) p) step.2 (record { lawful = lawful; clients = tt }, ap (λ w. said (Shaped shape) ++ w ∷ []) (sym was.0))
+      subst (LineFollows (said (Shaped shape)) p) step.2 (record { lawful = lawful; clients = tt }, ap (λ w. said (Shaped shape) ++ w ∷ []) (sym was.0))
 
 -- between programs
 
@@ -117,7 +117,7 @@ client_said script server words are =
     ap (λ l. script_lines (record { shape = script.shape; servers = script.servers; clients = [] }) ++ l) (flat_map_push client_lines script.clients (record { server = server; programs = [] }))
     ∙ ap (λ w. script_lines script ++ w ∷ []) (sym are)
 
-listed : (script : Workload) (p : ℕ × Text) (read : ListingLine) → IsScriptSpellable script → IsListingLine script (words_of p.1) read → Follows (script_lines script) p (after_listing script p.0 read)
+listed : (script : Workload) (p : ℕ × Text) (read : ListingLine) → IsScriptSpellable script → IsListingLine script (words_of p.1) read → LineFollows (script_lines script) p (after_listing script p.0 read)
 listed script p (ClientLine server) s was = (spellable_client script server s was.1 was.2, client_said script server (words_of p.1) was.0)
 listed script p Begin s was = (
   record { script_is = s; some = was.1; room = was.2; lawful = record { count = omega arith; commands = λ k d below. absurd (omega (arith, below)) }; fits = tt },
@@ -125,10 +125,10 @@ listed script p Begin s was = (
 )
 listed script p Schedule s was = record { script_is = s; whole = refl; number = refl; word = was }
 
-from_listing : (sim : Bool) (p : ℕ × Text) (next : Place) (script : Workload) → IsScriptSpellable script → place_after sim (Listing script) p ≡ Ok next → Follows (said (Listing script)) p next
+from_listing : (sim : Bool) (p : ℕ × Text) (next : Place) (script : Workload) → IsScriptSpellable script → place_after sim (Listing script) p ≡ Ok next → LineFollows (said (Listing script)) p next
 from_listing sim p next script s e =
     let step = leading_was (after_listing script p.0) (listing_line sim script (words_of p.1)) next (listing_leads sim p.0 script (words_of p.1) ∙ e) in
-    subst (Follows (script_lines script) p) step.2 (listed script p step.0 s (listing_was sim script (words_of p.1) step.0 step.1))
+    subst (LineFollows (script_lines script) p) step.2 (listed script p step.0 s (listing_was sim script (words_of p.1) step.0 step.1))
 
 -- in a program
 
@@ -157,14 +157,14 @@ last_of (c ∷ d ∷ cs) some = let more = last_of (d ∷ cs) (omega arith) in (
 abbrev script_with : Workload → List Client → Workload
 script_with script cs = record { shape = script.shape; servers = script.servers; clients = cs }
 
-program_lawful : (script : Workload) (commands : List Command) → IsScript script → IsOpen script commands → IsScript (with_program commands script)
+program_lawful : (script : Workload) (commands : List Command) → IsScript script → IsOpenProgram script commands → IsScript (with_program commands script)
 program_lawful script commands lawful s =
     let last = last_of script.clients s.some in
     let room : length last.1.programs < 10000 = omega (arith, s.room, ap last_program_count last.2, last_program_count_is last.0 last.1) in
     subst (λ cs. IsScript (script_with script cs)) (sym (ap (change_last (gains_program commands)) last.2 ∙ change_last_is (gains_program commands) last.0 last.1))
     (program_kept script.shape script.servers last.0 last.1 commands (subst (λ cs. IsScript (script_with script cs)) last.2 lawful) room s.lawful)
 
-spellable_program : (script : Workload) (commands : List Command) → IsOpen script commands → IsScriptSpellable (with_program commands script)
+spellable_program : (script : Workload) (commands : List Command) → IsOpenProgram script commands → IsScriptSpellable (with_program commands script)
 spellable_program script commands s = record {
   lawful = program_lawful script commands s.script_is.lawful s;
   clients = changed_fits commands script.clients s.fits s.script_is.clients;
@@ -184,8 +184,8 @@ command_said script commands command words are =
     ∙ sym (append_assoc (script_lines script) ((codes "begin" ∷ []) ∷ map command_words commands) (command_words command ∷ []))
     ∙ ap (λ w. (script_lines script ++ (codes "begin" ∷ []) ∷ map command_words commands) ++ w ∷ []) (sym are)
 
-programmed : (script : Workload) (commands : List Command) (p : ℕ × Text) (read : ProgramLine) → IsOpen script commands → IsProgramLine (length commands) (words_of p.1) read
-    → Follows (said (Programming script commands)) p (after_program_line script commands read)
+programmed : (script : Workload) (commands : List Command) (p : ℕ × Text) (read : ProgramLine) → IsOpenProgram script commands → IsProgramLine (length commands) (words_of p.1) read
+    → LineFollows (said (Programming script commands)) p (after_program_line script commands read)
 programmed script commands p (Next command) s was = (
   record {
     script_is = s.script_is;
@@ -198,11 +198,11 @@ programmed script commands p (Next command) s was = (
 )
 programmed script commands p End s was = (spellable_program script commands s, program_said script commands (words_of p.1) s.some was)
 
-from_programming : (sim : Bool) (p : ℕ × Text) (next : Place) (script : Workload) (commands : List Command) → IsOpen script commands → place_after sim (Programming script commands) p ≡ Ok next
-    → Follows (said (Programming script commands)) p next
+from_programming : (sim : Bool) (p : ℕ × Text) (next : Place) (script : Workload) (commands : List Command) → IsOpenProgram script commands → place_after sim (Programming script commands) p ≡ Ok next
+    → LineFollows (said (Programming script commands)) p next
 from_programming sim p next script commands s e =
     let step = leading_was (after_program_line script commands) (program_line (length commands) (words_of p.1)) next (program_leads sim p.0 script commands (words_of p.1) ∙ e) in
-    subst (Follows (said (Programming script commands)) p) step.2 (programmed script commands p step.0 s (program_was (length commands) (words_of p.1) step.0 step.1))
+    subst (LineFollows (said (Programming script commands)) p) step.2 (programmed script commands p step.0 s (program_was (length commands) (words_of p.1) step.0 step.1))
 
 -- all lines
 
@@ -213,7 +213,7 @@ IsUnscheduled (Listing script) = ⊤
 IsUnscheduled (Programming script commands) = ⊤
 IsUnscheduled (Scheduled script start) = ⊥
 
-step_was : (sim : Bool) (p : ℕ × Text) (place next : Place) → IsUnscheduled place → IsReached place → place_after sim place p ≡ Ok next → Follows (said place) p next
+step_was : (sim : Bool) (p : ℕ × Text) (place next : Place) → IsUnscheduled place → IsReachedPlace place → place_after sim place p ≡ Ok next → LineFollows (said place) p next
 step_was sim p AtStart next going reached e = from_outset sim p next e
 step_was sim p (Shaped shape) next going reached e = from_shaped sim p next shape reached e
 step_was sim p (Listing script) next going reached e = from_listing sim p next script reached e
@@ -228,20 +228,20 @@ record HasSchedule (before : List (List Text)) (ps : List (ℕ × Text)) (script
   pub whole : script_lines script ≡ before ++ words_by_line front
   pub word : words_of line ≡ codes "schedule" ∷ []
 
-abbrev Ends : List (List Text) → List (ℕ × Text) → Place → Type 0
-Ends before ps AtStart = said AtStart ≡ before ++ words_by_line ps
-Ends before ps (Shaped shape) = said (Shaped shape) ≡ before ++ words_by_line ps
-Ends before ps (Listing script) = said (Listing script) ≡ before ++ words_by_line ps
-Ends before ps (Programming script commands) = said (Programming script commands) ≡ before ++ words_by_line ps
-Ends before ps (Scheduled script start) = HasSchedule before ps script start
+abbrev EndsAtPlace : List (List Text) → List (ℕ × Text) → Place → Type 0
+EndsAtPlace before ps AtStart = said AtStart ≡ before ++ words_by_line ps
+EndsAtPlace before ps (Shaped shape) = said (Shaped shape) ≡ before ++ words_by_line ps
+EndsAtPlace before ps (Listing script) = said (Listing script) ≡ before ++ words_by_line ps
+EndsAtPlace before ps (Programming script commands) = said (Programming script commands) ≡ before ++ words_by_line ps
+EndsAtPlace before ps (Scheduled script start) = HasSchedule before ps script start
 
 abbrev Concludes : List (List Text) → List (ℕ × Text) → Place → Type 0
-Concludes before ps last = IsReached last × Ends before ps last
+Concludes before ps last = IsReachedPlace last × EndsAtPlace before ps last
 
 more_words : (before so_far : List (List Text)) (p : ℕ × Text) (ps : List (ℕ × Text)) → so_far ≡ before ++ words_of p.1 ∷ [] → so_far ++ words_by_line ps ≡ before ++ words_by_line (p ∷ ps)
 more_words before so_far p ps e = ap (λ l. l ++ words_by_line ps) e ∙ append_assoc before (words_of p.1 ∷ []) (words_by_line ps)
 
-ends_more : (before so_far : List (List Text)) (p : ℕ × Text) (ps : List (ℕ × Text)) (last : Place) → so_far ≡ before ++ words_of p.1 ∷ [] → Ends so_far ps last → Ends before (p ∷ ps) last
+ends_more : (before so_far : List (List Text)) (p : ℕ × Text) (ps : List (ℕ × Text)) (last : Place) → so_far ≡ before ++ words_of p.1 ∷ [] → EndsAtPlace so_far ps last → EndsAtPlace before (p ∷ ps) last
 ends_more before so_far p ps AtStart e ends = ends ∙ more_words before so_far p ps e
 ends_more before so_far p ps (Shaped shape) e ends = ends ∙ more_words before so_far p ps e
 ends_more before so_far p ps (Listing script) e ends = ends ∙ more_words before so_far p ps e
@@ -255,7 +255,7 @@ ends_more before so_far p ps (Scheduled script start) e ends = record {
   word = ends.word;
 }
 
-ends_at : (place : Place) → IsUnscheduled place → Ends (said place) [] place
+ends_at : (place : Place) → IsUnscheduled place → EndsAtPlace (said place) [] place
 ends_at AtStart going = refl
 ends_at (Shaped shape) going = refl
 ends_at (Listing script) going = sym (append-nil (script_lines script))
@@ -271,9 +271,9 @@ scheduled_at before p ps script start last s e =
     (s.script_is, record { front = []; line = p.1; rest = ps; lines = ap (λ q. q ∷ ps) same; whole = s.whole ∙ sym (append-nil before); word = s.word })
 
 abbrev Rest : Bool → List (ℕ × Text) → Place → Type 0
-Rest sim ps last = (place : Place) → IsUnscheduled place → IsReached place → place_after_all sim place ps ≡ Ok last → Concludes (said place) ps last
+Rest sim ps last = (place : Place) → IsUnscheduled place → IsReachedPlace place → place_after_all sim place ps ≡ Ok last → Concludes (said place) ps last
 
-onward : (sim : Bool) (before : List (List Text)) (p : ℕ × Text) (ps : List (ℕ × Text)) (next last : Place) → Rest sim ps last → Follows before p next → place_after_all sim next ps ≡ Ok last → Concludes before (p ∷ ps) last
+onward : (sim : Bool) (before : List (List Text)) (p : ℕ × Text) (ps : List (ℕ × Text)) (next last : Place) → Rest sim ps last → LineFollows before p next → place_after_all sim next ps ≡ Ok last → Concludes before (p ∷ ps) last
 onward sim before p ps AtStart last rest f e = let c = rest AtStart tt f.0 e in (c.0, ends_more before (said AtStart) p ps last f.1 c.1)
 onward sim before p ps (Shaped shape) last rest f e = let c = rest (Shaped shape) tt f.0 e in (c.0, ends_more before (said (Shaped shape)) p ps last f.1 c.1)
 onward sim before p ps (Listing script) last rest f e = let c = rest (Listing script) tt f.0 e in (c.0, ends_more before (said (Listing script)) p ps last f.1 c.1)

@@ -20,7 +20,7 @@ use Rattle.hy_rules.specs.Moves.{State, is_begun, is_kept, surviving, home_serve
 use Rattle.hy_rules.specs.Runs.{setting_of, program_of, snap_of, leaves_write, begun_snap, own_entry, Ending, ByReading, ByEntryAt, ByFullLog, ByStop, Ended, ended, lost_by_stop, ended_by_append}
 use Rattle.hy_rules.specs.Validation.{live}
 use Rattle.hy_serial.proofs.Snapshots.{IsSnap, PhaseSnap, HasSnaps, all_from, all_at_nth}
-use Rattle.hy_serial.proofs.Told.{IsOwn, ReadTold, EndingTold, Told, appended_at, within_log, live_longer}
+use Rattle.hy_serial.proofs.Told.{IsLeftByProgram, ReadTold, EndingTold, Told, appended_at, within_log, live_longer}
 
 -- ---- programs that ended without an entry
 
@@ -144,7 +144,7 @@ module _ (script : Workload) (s : State) (client : ℕ) (b : IsBegun script s cl
   last_at : (log : List EntryKind) (e : EntryKind) → nth (log ++ e ∷ []) (length log + 1) ≡ Some e
   last_at log e = rw add-one (last_get log e)
 
-  own : IsOwn script (s.log ++ entry ∷ []) now (length s.log + 1)
+  own : IsLeftByProgram script (s.log ++ entry ∷ []) now (length s.log + 1)
   own = record {
     program = b.program;
     server = server;

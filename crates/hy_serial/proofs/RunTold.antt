@@ -47,11 +47,11 @@ begun_at_snap : (s : State) (client : ℕ) (x : Session) → nth s.sessions clie
 begun_at_snap s client x at = rw at refl
 
 -- what is known of the sessions of a state that a run reaches
-record IsReached (script : Workload) (s : State) : Type 0 where
+record SessionsReached (script : Workload) (s : State) : Type 0 where
   snaps : HasSnaps script.shape.group s
   programs : AtPrograms script s.sessions
 
-reading_quiet : (script : Workload) (s : State) (client : ℕ) → client_passes (setting_of script) s client (λ home session. is_begun session.phase) ≡ true → IsReached script s → AreQuiet script (length s.log) (ended s client ByReading)
+reading_quiet : (script : Workload) (s : State) (client : ℕ) → client_passes (setting_of script) s client (λ home session. is_begun session.phase) ≡ true → SessionsReached script s → AreQuiet script (length s.log) (ended s client ByReading)
 reading_quiet script s client e reached =
     let g : ℕ = script.shape.group in
     ended_case script (length s.log) client ByReading (nth s.sessions client) (λ x at. record {
@@ -82,7 +82,7 @@ pad_quiet : (script : Workload) (len : ℕ) (s : State) (o : Option ArmedStop) �
 pad_quiet script len s None = tt
 pad_quiet script len s (Some stop) = lost_quiet script len s 0
 
-step_told : (script : Workload) (s : State) (event : Event) → enabled (setting_of script) s event ≡ true → suits script s event ≡ true → IsReached script s → Steps script s event
+step_told : (script : Workload) (s : State) (event : Event) → enabled (setting_of script) s event ≡ true → suits script s event ≡ true → SessionsReached script s → Steps script s event
 step_told script s (Begin client) may e reached = stays script s (Begin client) refl tt
 step_told script s (Append client) may e reached = record { more = added script s (Append client); is = stopped_log (setting_of script) _ s.armed; told = append_told script s client e reached.snaps }
 step_told script s (End client) may e reached = stays script s (End client) refl (reading_quiet script s client may reached)
@@ -116,9 +116,9 @@ one_back script t s event done first rest =
           (told_both script grown rest.more (length s.log) (ended_by s event) done (omega (arith, length-append s.log first.more)) first.told later);
     }
 
-run_toward : (script : Workload) (s t : State) (events : List Event) → run script s events ≡ Some t → IsReached script s → Toward script t s (ended_in script s events)
+run_toward : (script : Workload) (s t : State) (events : List Event) → run script s events ≡ Some t → SessionsReached script s → Toward script t s (ended_in script s events)
 run_toward script s t events h =
-    run_back script t (λ u done. IsReached script u → Toward script t u done)
+    run_back script t (λ u done. SessionsReached script u → Toward script t u done)
     (λ reached. record { more = []; is = sym (append-nil t.log); told = record { each = tt; all = λ pos i past at. absurd (let place : pos ≤ length t.log = within_log t.log pos (Txn i) at in omega (arith, past, place)) } })
     (λ u event done may rest reached.
     let parts = and_parts (enabled (setting_of script) u event) (suits script u event) may in

@@ -34,7 +34,7 @@ use Rattle.hy_serial.proofs.Agreement.{Covers, same_all}
 use Rattle.hy_serial.proofs.Maps.{write_of, writes_of_rows}
 use Rattle.hy_serial.proofs.Histories.{first_map, first_map_rises, next_map, live_is_first, all_judged, serial_at, same_as_snapshot}
 use Rattle.hy_serial.proofs.Snapshots.{all_from}
-use Rattle.hy_serial.proofs.Told.{IsOwn, EntryTold, ReadTold, EndingTold, Told, appended_at, within_log}
+use Rattle.hy_serial.proofs.Told.{IsLeftByProgram, EntryTold, ReadTold, EndingTold, Told, appended_at, within_log}
 use Rattle.hy_serial.proofs.RunTold.{run_told}
 
 -- ---- an intention touches what was read
@@ -124,7 +124,7 @@ module _ (script : Workload) (before : List EntryKind) (events : List Event) (t 
   snapshot snap w within = live_is_first script.shape t.log snap some whole w within
 
   -- a committed program, right before its entry, does what it did on its snapshot
-  in_turn : (n : ℕ) (e : Ended) (own : IsOwn script log e (suc n)) → slice_get vs n ≡ Some (Some Commit) → exec own.program (map_at n) ≡ exec own.program (live script.shape log e.snap)
+  in_turn : (n : ℕ) (e : Ended) (own : IsLeftByProgram script log e (suc n)) → slice_get vs n ≡ Some (Some Commit) → exec own.program (map_at n) ≡ exec own.program (live script.shape log e.snap)
   in_turn n e own commit =
       let found : List Pair = live script.shape log e.snap in
       let left : Effects = (exec own.program found).1 in
@@ -150,13 +150,13 @@ module _ (script : Workload) (before : List EntryKind) (events : List Event) (t 
   found_one pos d [] all h = absurd (cc)
   found_one pos d (x ∷ xs) all h = found_one_case pos d x xs (is_entry_at pos x.ending) refl h all.0 (found_one pos d xs all.1)
 
-  own_of : (pos : ℕ) (d : Ended) (ending : Ending) → EndingTold script log (length before) done d ending → is_entry_at pos ending ≡ true → IsOwn script log d pos
+  own_of : (pos : ℕ) (d : Ended) (ending : Ending) → EndingTold script log (length before) done d ending → is_entry_at pos ending ≡ true → IsLeftByProgram script log d pos
   own_of pos d ByReading h e = absurd (true≢false (sym e))
-  own_of pos d (ByEntryAt at) h e = let same : at ≡ pos = eqb-true at pos e in subst (IsOwn script log d) same h.own
+  own_of pos d (ByEntryAt at) h e = let same : at ≡ pos = eqb-true at pos e in subst (IsLeftByProgram script log d) same h.own
   own_of pos d ByFullLog h e = absurd (true≢false (sym e))
   own_of pos d ByStop h e = absurd (true≢false (sym e))
 
-  owner : (pos : ℕ) (d : Ended) → appended_at pos done ≡ Some d → IsOwn script log d pos
+  owner : (pos : ℕ) (d : Ended) → appended_at pos done ≡ Some d → IsLeftByProgram script log d pos
   owner pos d h = let f = found_one pos d done told.each h in own_of pos d d.ending f.0 f.1
 
   -- the program that appended an entry, run on a map
@@ -171,7 +171,7 @@ module _ (script : Workload) (before : List EntryKind) (events : List Event) (t 
   owned_writes : (n : ℕ) (i : Intention) (d : Ended) → slice_get log n ≡ Some (Txn i) → slice_get vs n ≡ Some (Some Commit) → appended_at (suc n) done ≡ Some d
       → option_map_or (λ ran. ran.1.writes) (rerun r (suc n) (map_at n)) [] ≡ i.writes
   owned_writes n i d at commit h =
-      let own : IsOwn script log d (suc n) = owner (suc n) d h in
+      let own : IsLeftByProgram script log d (suc n) = owner (suc n) d h in
       let left : Effects = (exec own.program (live script.shape log d.snap)).1 in
       let same : Some (Txn (intention own.server d.client d.snap left)) ≡ Some (Txn i) = sym own.entry ∙ at in
       ap (λ (o : Option (List Answer × Effects)). option_map_or (λ ran. ran.1.writes) o []) (rerun_is (suc n) d own.program (map_at n) h own.is)
@@ -180,7 +180,7 @@ module _ (script : Workload) (before : List EntryKind) (events : List Event) (t 
   program_writes : (n : ℕ) (e : EntryKind) (o : Option Ended) → length before < suc n → slice_get log n ≡ Some e → slice_get vs n ≡ Some (Some Commit) → appended_at (suc n) done ≡ o
       → option_map_or (λ ran. ran.1.writes) (rerun r (suc n) (map_at n)) [] ≡ recorded e
   program_writes n (Filler server) None past at commit h = ap (λ (o : Option (List Answer × Effects)). option_map_or (λ ran. ran.1.writes) o []) (rerun_none (suc n) (map_at n) h)
-  program_writes n (Filler server) (Some d) past at commit h = let own : IsOwn script log d (suc n) = owner (suc n) d h in let same : Some (Filler server) ≡ Some (Txn _) = sym at ∙ own.entry in absurd (cc)
+  program_writes n (Filler server) (Some d) past at commit h = let own : IsLeftByProgram script log d (suc n) = owner (suc n) d h in let same : Some (Filler server) ≡ Some (Txn _) = sym at ∙ own.entry in absurd (cc)
   program_writes n (Txn i) None past at commit h = absurd (true≢false (sym (ap is_some (sym h) ∙ told.all (suc n) i past at)))
   program_writes n (Txn i) (Some d) past at commit h = owned_writes n i d at commit h
 
@@ -228,7 +228,7 @@ module _ (script : Workload) (before : List EntryKind) (events : List Event) (t 
   committed_at_pos : (e : Ended) (pos : ℕ) → e.ending ≡ ByEntryAt pos → EntryTold script log (length before) done e pos → verdict_at vs pos ≡ Some Commit → serial_answers r pos ≡ Some (answers_to script log e)
   committed_at_pos e zero is h commit = absurd (let late = h.late in omega (arith, late))
   committed_at_pos e (suc n) is h commit =
-      let own : IsOwn script log e (suc n) = h.own in
+      let own : IsLeftByProgram script log e (suc n) = h.own in
       let place : suc n ≤ length log = within_log log (suc n) _ own.entry in
       let here : serial_map r n ≡ map_at n = maps n (omega (arith, place)) in
       let ran : exec own.program (serial_map r n) ≡ exec own.program (live script.shape log e.snap) = ap (exec own.program) here ∙ in_turn n e own (commit_of vs n commit) in

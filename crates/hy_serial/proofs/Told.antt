@@ -26,7 +26,7 @@ abbrev pub appended_at : ℕ → List Ended → Option Ended
 appended_at pos done = find (λ e. is_entry_at pos e.ending) done
 
 -- the entry at a position is what the program left, which ran on its snapshot
-pub record IsOwn (script : Workload) (log : List EntryKind) (e : Ended) (pos : ℕ) : Type 0 where
+pub record IsLeftByProgram (script : Workload) (log : List EntryKind) (e : Ended) (pos : ℕ) : Type 0 where
   pub program : Program
   pub server : ℕ
   pub is : program_of script e.client e.number ≡ Some program
@@ -37,7 +37,7 @@ pub record IsOwn (script : Workload) (log : List EntryKind) (e : Ended) (pos : �
 pub record EntryTold (script : Workload) (log : List EntryKind) (start : ℕ) (done : List Ended) (e : Ended) (pos : ℕ) : Type 0 where
   pub late : start < pos
   pub found : appended_at pos done ≡ Some e
-  pub own : IsOwn script log e pos
+  pub own : IsLeftByProgram script log e pos
 
 -- a program that only read ran on its snapshot
 pub record ReadTold (script : Workload) (len : ℕ) (e : Ended) : Type 0 where
@@ -113,7 +113,7 @@ passed_over q (x ∷ xs) ys a = rw a.0 (passed_over q xs ys a.1)
 pub live_longer : (s : Shape) (log more : List EntryKind) (pos : ℕ) → pos ≤ length log → live s (log ++ more) pos ≡ live s log pos
 live_longer s log more pos le = ap pairs_of (growth_keeps_rows s log more (pos / s.group) (let fits : s.group * (pos / s.group) ≤ pos = mul-div-le pos s.group in omega (arith, fits, le))).rows
 
-own_longer : (script : Workload) (log more : List EntryKind) (e : Ended) (pos : ℕ) → IsOwn script log e pos → IsOwn script (log ++ more) e pos
+own_longer : (script : Workload) (log more : List EntryKind) (e : Ended) (pos : ℕ) → IsLeftByProgram script log e pos → IsLeftByProgram script (log ++ more) e pos
 own_longer script log more e pos h =
     let place : pos ≤ length log = within_log log pos _ h.entry in
     let same : live script.shape log e.snap ≡ live script.shape (log ++ more) e.snap = sym (live_longer script.shape log more e.snap (omega (arith, h.below, place))) in

@@ -4,12 +4,22 @@ use mathlib.Core.List.{IsPrefix}
 use Rattle.hy_base.specs.Lists.{change_nth}
 use Rattle.hy_hub.specs.Calls.{len_of}
 use Rattle.hy_hub.specs.Trace.{state_after}
-use Rattle.hy_clients.proofs.Passes.{server_declared}
+use Rattle.hy_clients.proofs.Passes.{run_on, server_declared}
 use Rattle.hy_clients.proofs.Reaching.{looked_here, looks_alone}
+use Rattle.hy_clients.proofs.Turning.{as_own, grows}
 use Rattle.hy_clients.proofs.closing.publish_end.Goals as goal
 
 pub look-requires-clause-server : goal.look-requires-clause-server
-look-requires-clause-server g c = server_declared c.args.service.now.hub.now c.args.service.now.script.now c.args.pass.now c.requires.pass c.args.server c.requires.server
+look-requires-clause-server g c = server_declared c.requires.pass c.args.server c.requires.server
+
+pub publish_look-requires-clause-pass : goal.publish_look-requires-clause-pass
+publish_look-requires-clause-pass g c κs within = run_on c.requires.pass c.look.ensures.kept.0 (as_own c.look.ensures.turn)
+
+pub returns-in_err-look-clause-pass : goal.returns-in_err-look-clause-pass
+returns-in_err-look-clause-pass g c = run_on c.requires.pass c.look.ensures.kept.0 (as_own c.look.ensures.turn)
+
+pub returns-in_err-look-clause-grown : goal.returns-in_err-look-clause-grown
+returns-in_err-look-clause-grown g c = grows (as_own c.look.ensures.turn)
 
 pub publish_look-requires-clause-look : goal.publish_look-requires-clause-look
 publish_look-requires-clause-look g c κs within = looked_here c.args.pass.now c.look.new.pass c.args.server c.in_ok-look.look c.in_ok-look.ensures.turn c.requires.all

@@ -7,8 +7,17 @@ use Rattle.hy_clients.specs.Serving.{AreLive, EndsBy}
 use Rattle.hy_clients.proofs.Calls.{same_answer}
 use Rattle.hy_clients.proofs.Ended.{own_end, program_ends, ends_same}
 use Rattle.hy_clients.proofs.Living.{live_same}
-use Rattle.hy_clients.proofs.Passes.{client_within, home_is}
+use Rattle.hy_clients.proofs.Passes.{client_low, client_within, home_is, program_good, server_low}
 use Rattle.hy_clients.proofs.serving.run_once.Goals as goal
+
+pub run_program-requires-clause-program : goal.run_program-requires-clause-program
+run_program-requires-clause-program g c = program_good c.args.service.now.script.now c.args.client c.args.server c.requires.client c.args.number c.args.program.now c.requires.program
+
+pub run_program-requires-clause-server : goal.run_program-requires-clause-server
+run_program-requires-clause-server g c = server_low c.args.service.now.script.now c.args.client c.args.server c.requires.client
+
+pub run_program-requires-clause-client : goal.run_program-requires-clause-client
+run_program-requires-clause-client g c = client_low c.args.service.now.script.now c.args.client c.args.server c.requires.client
 
 pub end_program-requires-clause-client : goal.end_program-requires-clause-client
 end_program-requires-clause-client g c = client_within c.args.service.now.script.now c.args.client c.args.server c.requires.client

@@ -1,4 +1,4 @@
-use Rattle.std.proofs.Common.{◌≡◌, ◌∙◌, ℕ, zero, suc, ◌+◌, ◌<◌, List, [], ◌∷◌, ◌++◌, length, take, refl, sym, ap, arith}
+use Rattle.std.proofs.Common.{◌≡◌, ◌∙◌, ℕ, zero, suc, ◌+◌, ◌-◌, ◌<◌, List, [], ◌∷◌, ◌++◌, length, take, refl, sym, ap, arith}
 use Rattle.std.specs.Prelude.{Option, option_and_then, slice_get}
 use Rattle.hy_base.specs.declared.record.Verdict.{Verdict}
 use Rattle.hy_rules.specs.Runs.{verdict_at}
@@ -15,6 +15,7 @@ loop-pos-preserved c =
     let vs = c.args.roller.now.rolled.verdicts in
     let pos = c.loop-pos.pos in
     let one : pos + 1 ≡ suc pos = omega arith in
+    let past : pos + 1 - c.args.roller.now.from ≡ suc pos = omega (arith, c.requires.from_first) in
     let below : pos < length vs = omega (arith, c.loop-pos-test.true, c.at-count.ensures, c.requires.count) in
-    let here : c.verdict_at.result ≡ option_and_then (λ v. v) (slice_get vs pos) = c.verdict_at.ensures ∙ ap (verdict_at vs) one in
+    let here : c.kept_verdict.result ≡ option_and_then (λ v. v) (slice_get vs pos) = c.kept_verdict.ensures ∙ ap (verdict_at vs) past in
     c.in_ok-push.ensures.items ∙ (λ i. c.loop-pos.invariant i ++ here i ∷ []) ∙ next vs pos below ∙ ap (λ n. take n vs) (sym one)

@@ -2,7 +2,7 @@ use Rattle.std.proofs.Common.{rules, ◌≡◌, ◌<◌, ◌+◌, ◌-◌, false
 use Rattle.std.specs.Prelude.{Some, Ok}
 use Rattle.hy_script.specs.Lines.{is_skipped}
 use Rattle.hy_script.specs.Parts.{after_step, IsStep}
-use Rattle.hy_script.proofs.ReadLemmas.{Stands, finishes, reaches, skips, reads}
+use Rattle.hy_script.proofs.ReadLemmas.{ReadStands, finishes, reaches, skips, reads}
 use Rattle.hy_script.proofs.source.read_script.Goals.{then-not-is_skipped+in-Ok-To, else-not-is_skipped}
 use Rattle.hy_script.proofs.source.read_script.Goals as goal
 use Rattle.hy_script.proofs.ScriptRead.{spellable, spells_scripts}
@@ -20,13 +20,13 @@ pub loop-rest-preserved : goal.loop-rest-preserved
 loop-rest-preserved c =
     elim c.if-not-is_skipped.branch [
       | then-not-is_skipped+in-Ok-To w ↦
-          subst (λ p. Stands c.args.sim c.args.bytes.now p (c.loop-rest.number + 1) c.cut_line.result.1.now) (sym w.place-is)
+          subst (λ p. ReadStands c.args.sim c.args.bytes.now p (c.loop-rest.number + 1) c.cut_line.result.1.now) (sym w.place-is)
           (reads c.args.sim c.args.bytes.now c.loop-rest.rest.now c.cut_line.result.0.now c.cut_line.result.1.now c.loop-rest.place c.loop-rest.number c.loop-rest.invariant
           c.cut_line.ensures.lines c.cut_line.ensures.lengths (search rules) w.in-Ok-To.next (search rules)
           (w.in-Ok-To.ensures.exact c.loop-rest.number ∙ ap (λ s. Ok (after_step c.loop-rest.number s)) w.in-Ok-To.field-0-is)
           (subst IsStep w.in-Ok-To.field-0-is w.in-Ok-To.ensures.good))
       | else-not-is_skipped w ↦
-          subst (λ p. Stands c.args.sim c.args.bytes.now p (c.loop-rest.number + 1) c.cut_line.result.1.now) (sym w.place-is)
+          subst (λ p. ReadStands c.args.sim c.args.bytes.now p (c.loop-rest.number + 1) c.cut_line.result.1.now) (sym w.place-is)
           (skips c.args.sim c.args.bytes.now c.loop-rest.rest.now c.cut_line.result.0.now c.cut_line.result.1.now c.loop-rest.place c.loop-rest.number c.loop-rest.invariant
           c.cut_line.ensures.lines c.cut_line.ensures.lengths (search rules) (search rules))
     ]
