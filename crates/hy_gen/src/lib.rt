@@ -8,7 +8,5 @@ mod drawing;
 mod load;
 mod programs;
 mod rounds;
-#[cfg(test)]
-mod tests;
 
 pub use load::{Load, generate};

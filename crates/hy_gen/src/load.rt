@@ -11,7 +11,7 @@ use hy_base::{Clients, Event, Items, Script, Shape};
 use std::alloc::{AllocError, Global};
 
 /// A script, and events for its run.
-#[derive(Debug, Drop)]
+#[derive(Drop)]
 pub struct Load {
     pub script: Script,
     pub events: Vec<Event>,

@@ -40,6 +40,14 @@ fn a_shape_names_its_first_bad_field(rt: HostRuntime) {
     }
 }
 
+// The base of a group, where there is such a group in a log that is full.
+fn base_of(group: u32) -> Option<Pos> {
+    if group < 1 || group > 25 {
+        return None;
+    }
+    Some(SHAPE.base(group))
+}
+
 #[test]
 fn a_base_is_two_windows_back(rt: HostRuntime) {
     let rows = [
@@ -54,8 +62,7 @@ fn a_base_is_two_windows_back(rt: HostRuntime) {
         (25, 42),
     ];
     for (group, want) in rows {
-        assert!(rt; 1 <= group && group <= 25);
-        assert!(rt; SHAPE.base(group) == want, "at {group}");
+        assert!(rt; base_of(group) == Some(want), "at {group}");
     }
 }
 
@@ -84,16 +91,21 @@ fn faults_are_spelled(rt: HostRuntime) -> Result<(), Fail> {
     Ok(())
 }
 
-// Whether so many bytes, of which the last is this one, become a value. A clone of it has them.
-fn becomes_value(alloc: Global, last: u8, len: usize) -> Result<bool, Fail> {
+// So many bytes, of which the last is this one.
+fn bytes_to(alloc: Global, last: u8, len: usize) -> Result<Vec<u8>, AllocError> {
     let mut bytes = vec![in alloc; b'!'; len]?;
     if let Some(end) = bytes.last_mut() {
         *end = last;
     }
-    match Value::new(bytes) {
-        Ok(value) => Ok(value.clone()?.as_bytes().last() == Some(&last)),
+    Ok(bytes)
+}
+
+// Whether so many bytes, of which the last is this one, become a value.
+fn becomes_value(alloc: Global, last: u8, len: usize) -> Result<bool, AllocError> {
+    match Value::new(bytes_to(alloc, last, len)?) {
+        Ok(value) => Ok(value.as_bytes().last() == Some(&last)),
         Err(ValueError::BadValue) => Ok(false),
-        Err(ValueError::Memory) => Err(Fail::from(AllocError)),
+        Err(ValueError::Memory) => Err(AllocError),
     }
 }
 
@@ -148,20 +160,4 @@ fn size_of_two_steps<L: Ledger>(blank: Blank) -> usize
 #[test]
 fn steps_take_no_bytes(rt: HostRuntime) {
     assert_eq!(rt; size_of_two_steps::<Brand>(Blank::new(1)), 0);
-}
-
-// Whether the row of a write, and so its copy, has the value of the write.
-fn keeps(write: &Write) -> Result<bool, AllocError> {
-    let row = Row::of_write(write, 3)?.clone()?;
-    Ok(row.key == write.key && row.writer == 3 && row.value.is_some() == write.value.is_some())
-}
-
-#[test]
-fn a_row_keeps_what_was_written(rt: HostRuntime) -> Result<(), Fail> {
-    let alloc = rt.alloc();
-    for put in [true, false] {
-        let value = Value::new(vec![in alloc; b'a'; put as usize]?).ok();
-        assert!(rt; keeps(&Write { key: 5, value })?);
-    }
-    Ok(())
 }

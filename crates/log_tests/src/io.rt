@@ -3,7 +3,7 @@ ghost use Rattle.std.specs.Prelude.{◌≢◌, ◌≤◌, IfOk, IsOk};
 
 use crate::calls::front;
 use hy_io::*;
-use std::alloc::Global;
+use std::alloc::{AllocError, Global};
 use std::io;
 use std::io::{ErrorKind, Read, Write};
 use std::process::Abort;
@@ -88,9 +88,23 @@ fn check_read<S: Source>(
     }
 }
 
+/// What is read of a source of these bytes, of which so many come at a time, and of which these calls fail.
+fn check_source(
+    rt: &impl Abort,
+    alloc: Global,
+    bytes: &[u8],
+    most: usize,
+    fails: &[u64],
+    limit: usize,
+    want: Result<&[u8], ReadAllError>,
+) -> Result<(), AllocError> {
+    let mut source = MemSource::new(alloc, bytes, most.max(1), fails)?;
+    check_read(rt, alloc, &mut source, limit, want);
+    Ok(())
+}
+
 #[test]
 fn a_source_in_memory_is_read(rt: HostRuntime) -> Result<(), Fail> {
-    let alloc = rt.alloc();
     let fault = Err(ReadAllError::SourceFault);
     let too_long = Err(ReadAllError::TooLong);
     let rows: [(&[u8], usize, &[u64], usize, Result<&[u8], ReadAllError>); 12] = [
@@ -108,9 +122,7 @@ fn a_source_in_memory_is_read(rt: HostRuntime) -> Result<(), Fail> {
         (TEXT, 4, &[3], 7, too_long),
     ];
     for (bytes, most, fails, limit, want) in rows {
-        assert!(rt; most >= 1);
-        let mut source = MemSource::new(alloc, bytes, most, fails)?;
-        check_read(&rt, alloc, &mut source, limit, want);
+        check_source(&rt, rt.alloc(), bytes, most, fails, limit, want)?;
     }
     Ok(())
 }
@@ -136,6 +148,19 @@ fn gone_at_fault<K: Sink>(sink: &mut K, bytes: &[u8]) -> Option<usize> {
     }
 }
 
+/// Whether a sink with so much room, which takes so much at a time and of which these calls fail, takes the text up to a place.
+fn takes_up_to(
+    alloc: Global,
+    room: usize,
+    most: usize,
+    fails: &[u64],
+    gone: Option<usize>,
+) -> Result<bool, AllocError> {
+    let mut sink = MemSink::new(alloc, room, most.max(1), fails)?;
+    let told = gone_at_fault(&mut sink, TEXT);
+    Ok(told == gone && sink.taken() == front(TEXT, gone.unwrap_or(11)))
+}
+
 #[test]
 fn a_sink_in_memory_is_written(rt: HostRuntime) -> Result<(), Fail> {
     let alloc = rt.alloc();
@@ -153,10 +178,7 @@ fn a_sink_in_memory_is_written(rt: HostRuntime) -> Result<(), Fail> {
         (0, 99, &[], Some(0)),
     ];
     for (room, most, fails, gone) in rows {
-        assert!(rt; most >= 1);
-        let mut sink = MemSink::new(alloc, room, most, fails)?;
-        assert!(rt; gone_at_fault(&mut sink, TEXT) == gone);
-        assert!(rt; sink.taken() == front(TEXT, gone.unwrap_or(11)));
+        assert!(rt; takes_up_to(alloc, room, most, fails, gone)?);
     }
     Ok(())
 }

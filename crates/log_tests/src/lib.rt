@@ -1,6 +1,7 @@
-//! Tests of the log and of what it stands on, in this order: values, the plain fold, sources and sinks; words and scripts; bytes
-//! of entries, pages and saved points, and texts; devices in memory and in files; the log on them, and saves of points, with what
-//! a stop in each device call leaves. Bytes and answers were counted by hand. It promises nothing to a crate above.
+//! Tests of the log and of what it stands on, in this order: values, the plain fold, sources and sinks; words, scripts and
+//! generated loads; bytes of entries, pages and saved points, and texts; devices in memory and in files; the log on them, and saves
+//! of points, with what a stop in each device call leaves. Bytes and answers were counted by hand. It promises nothing to a crate
+//! above.
 #![tactic(auto)]
 
 #[cfg(test)]
@@ -21,6 +22,8 @@ mod file_device;
 mod input;
 #[cfg(test)]
 mod io;
+#[cfg(test)]
+mod loads;
 #[cfg(test)]
 mod log_in_memory;
 #[cfg(test)]

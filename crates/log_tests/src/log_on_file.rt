@@ -5,6 +5,7 @@ use hy_file::FileDisk;
 use hy_formats::Damage;
 use std::alloc::Global;
 use std::fs;
+use std::rt::Files;
 use std::test::Fail;
 
 const PATH: &str = "log_on_file_test.log";
@@ -28,6 +29,14 @@ fn read_back<D: Disk + Drop>(alloc: Global, disk: D) -> Option<D> {
     Some(close(log))
 }
 
+// Whether the device of a log of the put alone is damaged: a byte of its page's fill is written.
+fn is_damaged<R: Files + Drop>(alloc: Global, disk: FileDisk<'_, R>) -> bool {
+    match read_back(alloc, disk) {
+        Some(mut disk) => disk.write_at(300, &[1]) == Ok(()) && disk.sync() == Ok(()),
+        None => false,
+    }
+}
+
 #[test]
 fn a_log_is_opened_again(rt: HostRuntime) -> Result<(), Fail> {
     let alloc = rt.alloc();
@@ -35,12 +44,7 @@ fn a_log_is_opened_again(rt: HostRuntime) -> Result<(), Fail> {
         fs::remove_file(&rt, PATH)?;
     }
     assert!(rt; takes_put(alloc, FileDisk::new(&rt, PATH)));
-    let Some(mut disk) = read_back(alloc, FileDisk::new(&rt, PATH)) else {
-        return Err("no log of the put")?;
-    };
-    assert!(rt; disk.write_at(300, &[1]) == Ok(()));
-    assert!(rt; disk.sync() == Ok(()));
-    drop(disk);
+    assert!(rt; is_damaged(alloc, FileDisk::new(&rt, PATH)));
     assert!(rt; look(alloc, FileDisk::new(&rt, PATH), None) == Err(bad(1, Damage::Fill)));
     fs::remove_file(&rt, PATH)?;
     Ok(())

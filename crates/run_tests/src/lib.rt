@@ -1,6 +1,6 @@
-//! Tests of what a run is made of, and of whole calls: trees, programs on them, marks, melds and rollers; simulated runs; the list
-//! that threads share, and hubs; and `hyder_call` over sources, sinks and devices in memory, with what a failure of each of their
-//! calls leaves. Texts, statuses and files are tried on the program itself, by `tests/rows`. It promises nothing to a crate above.
+//! Tests of what a run is made of, and of whole calls: trees, melds and rollers; simulated runs; the list that threads
+//! share, and hubs; and `hyder_call` over sources, sinks and devices in memory, with what a failure of each of their calls leaves.
+//! Texts, statuses and files are tried on the program itself, by `tests/rows`. It promises nothing to a crate above.
 #![tactic(auto)]
 
 #[cfg(test)]
@@ -14,11 +14,7 @@ mod hub;
 #[cfg(test)]
 mod logs;
 #[cfg(test)]
-mod marks;
-#[cfg(test)]
 mod meld;
-#[cfg(test)]
-mod programs;
 #[cfg(test)]
 mod roller;
 #[cfg(test)]
