@@ -6,7 +6,7 @@ use std::marker::Model;
 use std::sync::Arc;
 
 /// A value that several owners share. Sharing copies nothing.
-#[derive(Debug, Drop)]
+#[derive(Drop)]
 pub struct Shared<T> {
     value: Arc<T, Global>,
 }

@@ -6,7 +6,7 @@ use crate::{Items, Key, Pos, Shape, Value};
 use std::marker::Model;
 
 /// A command of a program.
-#[derive(Debug, Drop)]
+#[derive(Drop)]
 pub enum Command {
     /// The live value of a key.
     Get(Key),
@@ -30,20 +30,20 @@ pub type Programs = Items<Program>;
 pub type Clients = Items<Client>;
 
 /// The commands (at most 64) that run together on one snapshot.
-#[derive(Debug, Drop)]
+#[derive(Drop)]
 pub struct Program {
     pub commands: Commands,
 }
 
 /// The programs of one client (at most 10,000), which run one after another on its server.
-#[derive(Debug, Drop)]
+#[derive(Drop)]
 pub struct Client {
     pub server: u8,
     pub programs: Programs,
 }
 
 /// A workload: the log's shape, the number of servers (1 to 8), and the clients, at most 16 a server.
-#[derive(Debug, Drop)]
+#[derive(Drop)]
 pub struct Script {
     shape: Shape,
     servers: u8,
@@ -101,7 +101,7 @@ impl Script {
 }
 
 /// What may happen next in a run. Clients and servers count from 1.
-#[derive(Clone, Copy, Debug, PartialEq, Eq)]
+#[derive(Clone, Copy, PartialEq, Eq)]
 pub enum Event {
     /// A client begins its next program on its server's board.
     Begin { client: u8 },
@@ -128,14 +128,14 @@ pub enum Phase {
 }
 
 /// The server of a client, and how many programs it has.
-#[derive(Clone, Copy, Debug, PartialEq, Eq)]
+#[derive(Clone, Copy)]
 pub struct Home {
     pub server: u8,
     pub programs: u16,
 }
 
 /// How far a client has come: its next program, whether that runs, and the position of its last entry of this run, or 0.
-#[derive(Clone, Copy, Debug, PartialEq, Eq)]
+#[derive(Clone, Copy)]
 pub struct Session {
     pub next: u32,
     pub phase: Phase,
@@ -144,7 +144,7 @@ pub struct Session {
 
 /// A stop that waits for the next append: in which of its device calls (1 to 4) it strikes, and the pattern (0 to 2) of
 /// what is left of the bytes then.
-#[derive(Clone, Copy, Debug, PartialEq, Eq)]
+#[derive(Clone, Copy)]
 pub struct ArmedStop {
     pub call: u8,
     pub pattern: u8,

@@ -6,7 +6,7 @@ use std::alloc::{AllocError, AllocFailed};
 use thiserror::Error;
 
 /// What a command line asks for.
-#[derive(Clone, Copy, Debug, PartialEq, Eq)]
+#[derive(Clone, Copy, PartialEq, Eq)]
 pub enum Line {
     /// Run the clients concurrently over the log, rolling it on 1 to 16 threads, from the saved point where `point` says
     /// so; and save a point once the run is finished, where `save` says so.

@@ -2,7 +2,7 @@
 use hy_base::{Answers, Pos};
 
 /// How a program ended.
-#[derive(Clone, Copy, Debug, PartialEq, Eq)]
+#[derive(Clone, Copy)]
 pub enum End {
     /// It only read.
     Reading,
@@ -13,7 +13,7 @@ pub enum End {
 }
 
 /// A program that ended: its snapshot, how it ended, and the answers to its commands.
-#[derive(Debug, Drop)]
+#[derive(Drop)]
 pub struct Answered {
     pub snap: Pos,
     pub end: End,

@@ -41,7 +41,7 @@ pub struct Run<D: Disk> {
 }
 
 /// Why a run isn't finished.
-#[derive(Clone, Copy, Debug, PartialEq, Eq)]
+#[derive(Clone, Copy)]
 pub enum Cause {
     /// The log's device failed. The log is stopped.
     Device,

@@ -28,7 +28,7 @@ use std::sync::Wait;
 use std::thread::Threads;
 
 /// The clients can't go on: the log is stopped, or memory was wanting.
-#[derive(Clone, Copy, Debug, PartialEq, Eq)]
+#[derive(Clone, Copy)]
 pub(crate) struct Cut;
 
 impl From<AllocError> for Cut {

@@ -13,7 +13,7 @@ use std::alloc::{AllocError, Global};
 use std::marker::Model;
 
 /// The keys that were read by themselves, the spans that were scanned, and the writes, each in its order.
-#[derive(Debug, Drop)]
+#[derive(Drop)]
 pub(crate) struct Accesses {
     points: Vec<Key>,
     spans: Vec<Span>,

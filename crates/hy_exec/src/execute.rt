@@ -12,7 +12,7 @@ use hy_tree::Tree;
 use std::alloc::{AllocError, Global};
 
 /// A program that has run: the answers to its commands, and how it ends.
-#[derive(Debug, Drop)]
+#[derive(Drop)]
 pub struct Executed {
     pub answers: Answers,
     pub finished: Finished,

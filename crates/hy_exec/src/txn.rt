@@ -35,7 +35,7 @@ impl Model for Txn {
 }
 
 /// How a transaction ends.
-#[derive(Debug, Drop)]
+#[derive(Drop)]
 pub enum Finished {
     /// It wrote nothing. The position of its snapshot.
     ReadOnly(Pos),

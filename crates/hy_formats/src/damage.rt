@@ -87,7 +87,7 @@ impl Damage {
 }
 
 /// The first field of an entry that is refused: the offset of its first byte in the entry's bytes, and why.
-#[derive(Clone, Copy, Debug, PartialEq, Eq, Error)]
+#[derive(Clone, Copy, Debug, Error)]
 #[error("byte {place} of the entry: {}", .why.name())]
 pub struct BadEntry {
     pub place: usize,
@@ -95,7 +95,7 @@ pub struct BadEntry {
 }
 
 /// The first field of a saved point that is refused: the offset of its first byte on the device, and why.
-#[derive(Clone, Copy, Debug, PartialEq, Eq, Error)]
+#[derive(Clone, Copy, Debug, Error)]
 #[error("byte {place} of the point: {}", .why.name())]
 pub struct BadPoint {
     pub place: usize,
@@ -118,7 +118,7 @@ pub enum LogPlace {
 }
 
 /// The first place of a log that is refused, and why.
-#[derive(Clone, Copy, Debug, PartialEq, Eq)]
+#[derive(Clone, Copy)]
 pub struct LogFault {
     pub place: LogPlace,
     pub why: Damage,

@@ -38,7 +38,7 @@ impl From<Failed> for OpenError {
 }
 
 /// Why a log isn't restarted.
-#[derive(Clone, Copy, Debug, PartialEq, Eq, Error)]
+#[derive(Clone, Copy, Debug, Error)]
 pub enum RestartError {
     /// Out of memory.
     #[error("out of memory")]

@@ -23,7 +23,7 @@ impl Model for Group {
 }
 
 /// What becomes of a member.
-#[derive(Clone, Copy, Debug, PartialEq, Eq)]
+#[derive(Clone, Copy)]
 pub enum Join {
     /// It joined.
     Joined,

@@ -37,7 +37,7 @@ impl Source for SureSource {
 }
 
 /// Takes every piece whole, keeps nothing and tells nothing.
-#[derive(Clone, Copy, Debug, Default, PartialEq, Eq)]
+#[derive(Clone, Copy, Default)]
 pub struct SureSink;
 
 impl SureSink {

@@ -23,7 +23,7 @@ pub enum ReadAllError {
 }
 
 /// A write failed when the first `gone` bytes had gone out. The sink's count of faults rose.
-#[derive(Clone, Copy, Debug, PartialEq, Eq, Error)]
+#[derive(Clone, Copy, Debug, Error)]
 #[error("the sink failed after {gone} bytes")]
 pub struct SinkFault {
     /// How many bytes of the text the sink took.

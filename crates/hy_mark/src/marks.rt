@@ -18,7 +18,7 @@ use std::marker::Model;
 ///
 /// The pairs of a block and a position stand in the order of the blocks, each block once, and the writes in the order of
 /// their keys.
-#[derive(Debug, Drop)]
+#[derive(Drop)]
 pub struct Marks {
     pairs: MarkList,
     writes: Written,

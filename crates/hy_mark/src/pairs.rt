@@ -12,7 +12,7 @@ use std::alloc::{AllocError, Global};
 use std::marker::Model;
 
 /// Marks in the order of their blocks, each block at most once.
-#[derive(Debug, Drop)]
+#[derive(Drop)]
 pub struct MarkList {
     marks: Items<Mark>,
 }

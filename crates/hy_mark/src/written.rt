@@ -11,7 +11,7 @@ use std::alloc::{AllocError, Global};
 use std::marker::Model;
 
 /// Rows in the order of their keys, each key at most once.
-#[derive(Debug, Drop)]
+#[derive(Drop)]
 pub struct Written {
     rows: Rows,
 }

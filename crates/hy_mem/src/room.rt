@@ -3,7 +3,7 @@ ghost use Rattle.std.specs.Prelude.{◌≡◌, IsTrue};
 ghost use Rattle.hy_mem.specs.Room.{is_room_for, room_after, widened};
 
 /// Room for so many writes and syncs, of so many bytes in all.
-#[derive(Clone, Copy, Debug, PartialEq, Eq)]
+#[derive(Clone, Copy)]
 pub struct Room {
     pub calls: usize,
     pub bytes: usize,

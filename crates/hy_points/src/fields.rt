@@ -12,7 +12,7 @@ use hy_formats::Damage;
 use std::alloc::Global;
 
 /// The fields before the rows.
-#[derive(Clone, Copy, Debug)]
+#[derive(Clone, Copy)]
 pub struct HeadFields {
     pub position: Pos,
     pub base: Pos,
@@ -20,7 +20,7 @@ pub struct HeadFields {
 }
 
 /// A whole body.
-#[derive(Debug, Drop)]
+#[derive(Drop)]
 pub struct Body {
     pub head: HeadFields,
     pub rows: Vec<Row>,

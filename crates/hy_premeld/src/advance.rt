@@ -9,7 +9,7 @@ use hy_tree::Tree;
 use std::alloc::{AllocError, Global};
 
 /// What a check in advance comes to.
-#[derive(Debug, Drop)]
+#[derive(Drop)]
 pub enum Premelded {
     /// No key was written past what the marks know of it. These are the marks, raised to the base.
     Raised(Marks),

@@ -10,7 +10,7 @@ use std::alloc::{AllocError, Global};
 use std::marker::Model;
 
 /// A script whose end has not been read.
-#[derive(Debug, Drop)]
+#[derive(Drop)]
 pub struct Draft {
     shape: Shape,
     servers: u8,

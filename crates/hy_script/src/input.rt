@@ -12,7 +12,7 @@ use hy_base::{Event, Items, Script};
 use std::alloc::{AllocError, Global};
 
 /// A script, the events of its schedule, and the number of the line of each of these.
-#[derive(Debug, Drop)]
+#[derive(Drop)]
 pub struct Input {
     pub script: Script,
     pub schedule: Items<Event>,

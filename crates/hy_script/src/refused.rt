@@ -14,7 +14,7 @@ pub struct Refused {
 }
 
 /// Where a schedule begins: after the line `schedule`.
-#[derive(Clone, Copy, Debug, PartialEq, Eq)]
+#[derive(Clone, Copy)]
 pub struct ScheduleStart {
     /// The offset of the next line, or of the end where there is none.
     pub offset: usize,
@@ -23,14 +23,14 @@ pub struct ScheduleStart {
 }
 
 /// A script that was read, and where its schedule begins if it has one.
-#[derive(Debug, Drop)]
+#[derive(Drop)]
 pub struct Reading {
     pub script: Script,
     pub schedule: Option<ScheduleStart>,
 }
 
 /// An event of a schedule, and the number of its line.
-#[derive(Clone, Copy, Debug, PartialEq, Eq)]
+#[derive(Clone, Copy, PartialEq, Eq)]
 pub struct EventLine {
     pub line: u32,
     pub event: Event,

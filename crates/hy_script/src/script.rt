@@ -20,7 +20,7 @@ use hy_base::{Client, Command, Shape, Value, ValueError};
 use std::alloc::{AllocError, Global};
 
 /// Why a line was not read.
-#[derive(Clone, Copy, Debug, PartialEq, Eq)]
+#[derive(Clone, Copy)]
 pub enum LineError {
     Unfit(Why),
     Memory,
@@ -49,7 +49,7 @@ impl From<AllocError> for LineError {
 }
 
 /// A line between programs.
-#[derive(Clone, Copy, Debug, PartialEq, Eq)]
+#[derive(Clone, Copy)]
 pub enum ListingLine {
     Client(u8),
     Begin,
@@ -57,7 +57,7 @@ pub enum ListingLine {
 }
 
 /// A line of a program.
-#[derive(Debug, Drop)]
+#[derive(Drop)]
 pub enum ProgramLine {
     Next(Command),
     End,

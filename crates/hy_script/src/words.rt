@@ -10,7 +10,7 @@ use crate::cut::cut;
 use hy_base::read_number;
 
 /// The fields of a line: none of them is empty, unless there are too many anyway.
-#[derive(Clone, Copy, Debug)]
+#[derive(Clone, Copy)]
 pub enum Fields<'a> {
     Zero,
     One(&'a [u8]),

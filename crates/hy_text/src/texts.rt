@@ -14,7 +14,7 @@ use itoa::Buffer;
 use std::alloc::{AllocError, Global};
 
 /// A word of a line: bytes as they are, or a number in decimal.
-#[derive(Clone, Copy, Debug)]
+#[derive(Clone, Copy)]
 pub(crate) enum Word<'a> {
     Plain(&'a [u8]),
     Number(u64),
