@@ -159,17 +159,29 @@ fn a_source_and_a_sink_fail_at_each_call(rt: HostRuntime) -> Result<(), Fail> {
     Ok(())
 }
 
+// Whether a script is refused over a sink whose second call fails.
+fn is_refused<R: Threads + Wait + Sync>(
+    rt: &R,
+    alloc: Global,
+    source: &mut MemSource,
+    sink: &mut MemSink,
+) -> Result<bool, Fail> {
+    let done = simulated_on(rt, alloc, source, sink)?;
+    let is_refused = is_answered(&done, sink, refused(2, b"hyder: scr"));
+    drop(done);
+    Ok(is_refused)
+}
+
 // A line that can't be written changes no answer.
 #[test]
 fn a_sink_of_a_refusal_fails(rt: HostRuntime) -> Result<(), Fail> {
     let alloc = rt.alloc();
     let mut source = MemSource::new(alloc, SHORT_PUT, 7, &[])?;
     let mut sink = MemSink::new(alloc, 1000, 10, &[2])?;
-    let done = simulated_on(&rt, alloc, &mut source, &mut sink)?;
-    assert!(rt; is_answered(&done, &sink, refused(2, b"hyder: scr")));
+    let is_refused = is_refused(&rt, alloc, &mut source, &mut sink);
     drop(source);
     drop(sink);
-    drop(done);
+    assert!(rt; is_refused?);
     Ok(())
 }
 

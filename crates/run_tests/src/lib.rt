@@ -1,4 +1,4 @@
-//! Tests of what a run is made of, and of whole calls: trees, marks, melds and rollers; simulated runs; the list that threads
+//! Tests of what a run is made of, and of whole calls: trees, melds and rollers; simulated runs; the list that threads
 //! share, and hubs; and `hyder_call` over sources, sinks and devices in memory, with what a failure of each of their calls leaves.
 //! Texts, statuses and files are tried on the program itself, by `tests/rows`. It promises nothing to a crate above.
 #![tactic(auto)]
@@ -13,8 +13,6 @@ mod history;
 mod hub;
 #[cfg(test)]
 mod logs;
-#[cfg(test)]
-mod marks;
 #[cfg(test)]
 mod meld;
 #[cfg(test)]

@@ -1,8 +1,6 @@
 //! What a stop in each device call and with each pattern leaves.
-use crate::simulations::{Ended, end, read, scheduled};
+use crate::simulations::{Ended, end, scheduled};
 use hy_base::Pos;
-use hy_core::{Core, RunError};
-use hy_pipe::OpenGate;
 use std::alloc::Global;
 use std::test::Fail;
 use std::thread::Threads;
@@ -69,16 +67,5 @@ fn a_pad_adds_one_filler_or_none(rt: HostRuntime) -> Result<(), Fail> {
             assert!(rt; leaves, "call {call}, pattern {pattern}");
         }
     }
-    Ok(())
-}
-
-#[test]
-fn a_second_stop_may_not_be_ordered(rt: HostRuntime) -> Result<(), Fail> {
-    let alloc = rt.alloc();
-    let text = b"shape 1 1 8\nservers 1\nclient 1\nbegin\nput 1 a\nend\nschedule\nt 1 0\nt 1 0\n";
-    let input = read(alloc, text)?;
-    let mut core = Core::new(alloc, input.script)?;
-    let ran = core.run(&rt, alloc, input.schedule.as_slice(), 1, &OpenGate);
-    assert!(rt; ran == Err(RunError::NotEnabled { index: 1 }));
     Ok(())
 }
