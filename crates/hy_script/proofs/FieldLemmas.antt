@@ -1,16 +1,19 @@
 -- What the forms with one first word make of fields.
-use Rattle.std.proofs.Common.{arith, ◌≡◌, ℕ, ◌<◌, ◌≤◌, get_or, Bool, true, false, ◌||◌, ◌==◌, List, [], ◌∷◌, length, refl, ap, ◌∙◌, if◌then◌else◌}
-use Rattle.std.specs.Prelude.{Option, Some, None, option_and_then, Ok, Err, ok_or}
+use Rattle.std.proofs.Common.{arith, ◌≡◌, sym, ℕ, ◌<◌, ◌≤◌, get_or, Bool, true, false, ◌||◌, ◌==◌, List, [], ◌∷◌, length, refl, ap, ◌∙◌, if◌then◌else◌}
+use Rattle.std.specs.Prelude.{Option, Some, None, option_and_then, Result, Ok, Err, IsErrAnd, ok_or}
 use Rattle.std.specs.List.{list_any}
 use Rattle.std.specs.Option.{option_map_or}
 use Rattle.std.proofs.lemmas.Bool.{ne_eqb}
 use Prim.Native.String.{String}
 use Rattle.hy_base.specs.Script.{Workload}
-use Rattle.hy_script.specs.Grammar.{event_forms, publish, stop}
+use Rattle.hy_script.specs.Grammar.{event_forms, makes_if, publish, stop}
 use Rattle.hy_base.specs.Spelling.{Text, number_of}
 use Rattle.hy_script.specs.Forms.{Meaning, LineForm, Alone, OneNumber, TwoNumbers, ThreeNumbers, NumberAndText, judged_words, read_line, read_fields, meaning_of, field_count, is_blank}
-use Rattle.hy_script.specs.Fields.{and_then, one_number, two_numbers, three_numbers, number_and_text, no_fields}
-use Rattle.hy_script.specs.declared.why.Why.TheVariants.{Form, Number}
+use Rattle.hy_script.specs.Fields.{and_then, in_range, one_number, two_numbers, three_numbers, number_and_text, no_fields}
+use Rattle.hy_base.specs.Shape.{is_within}
+use Rattle.hy_base.specs.declared.workload.Event.{Event}
+use Rattle.hy_script.specs.declared.why.Why.{Why}
+use Rattle.hy_script.specs.declared.why.Why.TheVariants.{Form, Number, Range}
 
 same_either : {A : Type 0} (t : Bool) (x : A) → (if t then x else x) ≡ x
 same_either true x = refl
@@ -62,6 +65,30 @@ pub one_letter : (word : Text) (b : ℕ) → length word < 2 → 1 ≤ length wo
 one_letter [] b below least e = absurd (omega arith)
 one_letter (c ∷ []) b below least e = ap (λ x. x ∷ []) e
 one_letter (c ∷ d ∷ rest) b below least e = absurd (omega arith)
+
+-- a number between two others, and what it makes
+ranged : {T : Type 0} (low high : ℕ) (make : ℕ → T) (read : Result ℕ Why)
+    → and_then read (λ n. judged_words (makes_if ((is_within low high n, Range) ∷ []) (make n))) ≡ and_then (and_then read (in_range low high)) (λ n. Ok (make n))
+ranged low high make (Err why) = refl
+ranged low high make (Ok n) = in_or_out (is_within low high n) where
+  in_or_out : (t : Bool) → judged_words (makes_if ((t, Range) ∷ []) (make n)) ≡ and_then (if t then Ok n else Err Range) (λ m. Ok (make m))
+  in_or_out true = refl
+  in_or_out false = refl
+
+-- a line of a letter and a number between two others is read once that number is: it makes its event, or fails as the number does
+module _ (script : Workload) (words rest : List Text) (word : Text) (letter : ℕ) (low high : ℕ) (event : ℕ → Event) (read : Result ℕ Why)
+    (split : words ≡ word ∷ rest) (named : word ≡ letter ∷ [])
+    (form : read_line (event_forms script) ((letter ∷ []) ∷ rest) ≡ and_then (one_number rest) (λ n. judged_words (makes_if ((is_within low high n, Range) ∷ []) (event n))))
+    (told : read ≡ and_then (one_number rest) (in_range low high)) where
+  numbered : read_line (event_forms script) words ≡ and_then read (λ n. Ok (event n))
+  numbered = ap (read_line (event_forms script)) (split ∙ ap (λ x. x ∷ rest) named) ∙ form ∙ ranged low high event (one_number rest) ∙ ap (λ r. and_then r (λ n. Ok (event n))) (sym told)
+
+  pub line_made : (n : ℕ) → read ≡ Ok n → Ok (event n) ≡ read_line (event_forms script) words
+  line_made n is = sym (numbered ∙ ap (λ r. and_then r (λ n. Ok (event n))) is)
+
+  pub line_refused : (why : Why) (result : Result Event Why) → read ≡ Err why → IsErrAnd result (λ x. x ≡ why) → result ≡ read_line (event_forms script) words
+  line_refused why (Ok e) is was = absurd was
+  line_refused why (Err x) is was = ap (λ y. Err y) was ∙ sym (numbered ∙ ap (λ r. and_then r (λ n. Ok (event n))) is)
 
 pub publish_line : (script : Workload) (words rest : List Text) (word : Text) → words ≡ word ∷ rest → word ≡ 114 ∷ []
     → read_line (event_forms script) words ≡ and_then (two_numbers rest) (λ p. judged_words (publish script p.0 p.1))
