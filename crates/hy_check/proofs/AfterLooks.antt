@@ -1,7 +1,7 @@
 -- A look after others, and what is answered then.
 use Rattle.std.proofs.Common.{ℕ, List, sym}
 use Rattle.std.proofs.lemmas.Bool.{true≢false}
-use Rattle.std.specs.Prelude.{Result, Ok, Err, IfOk, IsErr}
+use Rattle.std.specs.Prelude.{Result, Ok, Err, IsErr}
 use Rattle.hy_disk.specs.Content.{Content}
 use Rattle.hy_log.specs.Looks.{IsLook}
 use Rattle.hy_log.proofs.Looking.{looks, look_ok, looked}
@@ -11,11 +11,6 @@ ok_of x = Ok x
 
 abbrev err_of : {T E : Type 0} → E → Result T E
 err_of e = Err e
-
--- what holds of an answer holds where there is none
-pub no_answer : {T E : Type 0} (P : T → Type 0) (result : Result T E) → IsErr result → IfOk result P
-no_answer P (Ok x) failed = absurd (true≢false (sym failed))
-no_answer P (Err e) failed = tt
 
 module _ {D : Type 0} (content : D → Content) (moment : D → ℕ) (left_since : D → ℕ → List ℕ → Type 0) (faults_of : D → ℕ) (has_room : D → ℕ → ℕ → Type 0) (old mid new : D)
     (before : IsLook content moment left_since faults_of has_room old mid looked) where
