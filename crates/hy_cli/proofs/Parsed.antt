@@ -31,6 +31,10 @@ module _ {Z : Type 0} where
       let rows_are : Some rows ≡ Some rs = b ∙ ap (λ (o : Option (Text × List Row)). option_map (λ p. p.1) o) e in
       (cc names_are, cc rows_are)
 
+  no_command : (sub : Option (Box SubCommand Z)) (n : Text) (rs : List Row) → None ≡ option_map (λ b. (out-SubCommand (box_value b)).name.now) sub → subcommand_rows sub ≡ Some (n, rs) → ⊥
+  no_command None n rs a e = cc e
+  no_command (Some x) n rs a e = cc a
+
 -- what a parse that succeeds gives to its caller
 pub record IsRead (words : List Text) (name : Text) (rows : List Row) : Type 0 where
   pub fault : fault_of hyder_app words ≡ []
@@ -56,6 +60,15 @@ is_read a m words name rows X app kinds matches named found =
       named = taken.named;
       first = taken.first ∙ ap (λ n. Some n) (sym same.0);
     }
+
+-- it is never without a command
+pub never_bare : (a : App) (m : ArgMatches) (words : List Text) (X : Type 0) → a ≡ hyder_app → (is_simple_and_free a ≡ true → fault_of a words ≡ [])
+    → (is_simple a ≡ true → X × (subcommand_rows_of m ≡ subcommand_of a words)) → None ≡ subcommand_name_of m → ⊥
+never_bare a m words X app kinds matches named =
+    let fault : fault_of hyder_app words ≡ [] = subst (λ (x : App). is_simple_and_free x ≡ true → fault_of x words ≡ []) app kinds program_free in
+    let taken = taken_words words fault in
+    let sub = (subst (λ (x : App). is_simple x ≡ true → X × (subcommand_rows_of m ≡ subcommand_of x words)) app matches program_simple).1 ∙ taken.entered in
+    no_command (out-ArgMatches m).subcommand taken.name taken.rows named sub
 
 -- the line that was read is the one that the words ask for
 pub read_obeys : (words : List Text) (name : Text) (rows : List Row) (r : Line) → IsRead words name rows → line_found name rows ≡ Some r → (l : Line) → line_of words ≡ Some l → r ≡ l

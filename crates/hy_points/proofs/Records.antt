@@ -150,6 +150,20 @@ record_fails s bytes n m e same within len fails =
     let at : FailsAt e (point_placed (length (take n (drop 9 bytes))) (whole_point_body s (take n (drop 9 bytes)))) = subst (λ (k : ℕ). FailsAt e (point_placed (length (take k (drop 9 bytes))) (whole_point_body s (take k (drop 9 bytes))))) same fails in
     refused_body s bytes n e len (subst (λ (k : ℕ). FailsAt e (point_placed k (whole_point_body s (take n (drop 9 bytes))))) size at)
 
+-- the body is read, and then what fills the record is looked at
+read_body : (s : Shape) (bytes : List ℕ) (n : ℕ) (c : Checkpoint) → Ok n ≡ body_len_in bytes → point_placed n (whole_point_body s (take n (drop 9 bytes))) ≡ Ok c → point_in s bytes ≡ (filled_in n bytes >>= λ fine. Ok c)
+unfolding point_in
+read_body s bytes n c len reads =
+    ap (λ (r : Result ℕ BadPoint). r >>= λ n. point_placed n (whole_point_body s (take n (drop 9 bytes))) >>= λ point. filled_in n bytes >>= λ fine. Ok point) (sym len)
+    ∙ ap (λ (r : Result Checkpoint BadPoint). r >>= λ point. filled_in n bytes >>= λ fine. Ok point) reads
+
+pub record_reads : (s : Shape) (bytes : List ℕ) (n m : ℕ) (c : Checkpoint) (found : Result (Unit {0}) BadPoint) → m ≡ n → point_record_size n ≤ length bytes → Ok n ≡ body_len_in bytes
+    → point_placed (length (take m (drop 9 bytes))) (whole_point_body s (take m (drop 9 bytes))) ≡ Ok c → found ≡ filled_in n bytes → point_in s bytes ≡ (found >>= λ fine. Ok c)
+record_reads s bytes n m c found same within len reads filled =
+    let size : length (take n (drop 9 bytes)) ≡ n = omega (arith, length-take n (drop 9 bytes), length-drop 9 bytes, within, room_for n) in
+    let at : point_placed (length (take n (drop 9 bytes))) (whole_point_body s (take n (drop 9 bytes))) ≡ Ok c = subst (λ (k : ℕ). point_placed (length (take k (drop 9 bytes))) (whole_point_body s (take k (drop 9 bytes))) ≡ Ok c) same reads in
+    read_body s bytes n c len (subst (λ (k : ℕ). point_placed k (whole_point_body s (take n (drop 9 bytes))) ≡ Ok c) size at) ∙ ap (λ (r : Result (Unit {0}) BadPoint). r >>= λ fine. Ok c) (sym filled)
+
 module _ (s : Shape) (bytes : List ℕ) (shape : IsGoodShape s) (are : AreBytes bytes) (gate : byte_at bytes 0 ≡ 71) (long : 9 ≤ length bytes) where
   pub valid_body : (r : Result Body PointError) → DecodesAs (body_of s) r (point_in s bytes) → IfOk r (λ b. IsCheckpoint (body_of s b))
   valid_body (Ok b) is = (point_takes s bytes (body_of s b) shape are gate long is).valid

@@ -1,2 +1,3 @@
 pub mod Lines
+mod Written
 pub mod Waits

@@ -1,3 +1,6 @@
+use Rattle.std.proofs.Common.{◌∙◌, Some, sym, ap}
+use Rattle.hy_cli.specs.Matches.{line_found}
+use Rattle.hy_cli.specs.declared.line.Line.TheVariants.{Run, Sim, Load}
 use Rattle.clap.specs.Words.{found_of, rows_of}
 use Rattle.hy_cli.proofs.Getters.{load_accepted, load_left, run_accepted, sim_accepted}
 use Rattle.hy_cli.proofs.matched.line_from.Goals as goal
@@ -28,3 +31,36 @@ pub threads_of-requires-in_default : goal.threads_of-requires-in_default
 threads_of-requires-in_default c =
     let is = load_left c.args.name.now c.requires.known c.in_default.not-recover c.in_default.not-check c.in_default.not-run c.in_default.not-sim in
     (load_accepted c.args.name.now (rows_of (found_of c.args.found.now)) is c.requires.accepted).2
+
+pub returns-in-recover-clause-word : goal.returns-in-recover-clause-word
+returns-in-recover-clause-word c = sym c.in-recover.is
+
+pub returns-in-recover-clause-line : goal.returns-in-recover-clause-line
+returns-in-recover-clause-line c = ap (λ n. line_found n (rows_of (found_of c.args.found.now))) c.in-recover.is
+
+pub returns-in-check-clause-word : goal.returns-in-check-clause-word
+returns-in-check-clause-word c = sym c.in-check.is
+
+pub returns-in-check-clause-line : goal.returns-in-check-clause-line
+returns-in-check-clause-line c = ap (λ n. line_found n (rows_of (found_of c.args.found.now))) c.in-check.is
+
+pub returns-in-run-clause-word : goal.returns-in-run-clause-word
+returns-in-run-clause-word c = sym c.in-run.is
+
+pub returns-in-run-clause-line : goal.returns-in-run-clause-line
+returns-in-run-clause-line c =
+    ap (λ n. line_found n (rows_of (found_of c.args.found.now))) c.in-run.is ∙ (λ i. Some (Run (sym c.threads_of.ensures.value i) (sym c.flag_of.ensures i) (sym c.flag_of-in-run.ensures i)))
+
+pub returns-in-sim-clause-word : goal.returns-in-sim-clause-word
+returns-in-sim-clause-word c = sym c.in-sim.is
+
+pub returns-in-sim-clause-line : goal.returns-in-sim-clause-line
+returns-in-sim-clause-line c = ap (λ n. line_found n (rows_of (found_of c.args.found.now))) c.in-sim.is ∙ (λ i. Some (Sim (sym c.threads_of-in-sim.ensures.value i)))
+
+pub returns-in_default-clause-word : goal.returns-in_default-clause-word
+returns-in_default-clause-word c = sym (load_left c.args.name.now c.requires.known c.in_default.not-recover c.in_default.not-check c.in_default.not-run c.in_default.not-sim)
+
+pub returns-in_default-clause-line : goal.returns-in_default-clause-line
+returns-in_default-clause-line c =
+    let is = load_left c.args.name.now c.requires.known c.in_default.not-recover c.in_default.not-check c.in_default.not-run c.in_default.not-sim in
+    ap (λ n. line_found n (rows_of (found_of c.args.found.now))) is ∙ (λ i. Some (Load (sym c.seed_of.ensures i) (sym c.size_of.ensures.value i) (sym c.threads_of-in_default.ensures.value i)))

@@ -1,7 +1,8 @@
 use Rattle.std.proofs.Common.{◌≡◌, ◌∙◌, Some, refl, sym, ap, map}
 use Rattle.clap.specs.Words.{app_of, found_of, kind_of, rows_of}
 use Rattle.clap.specs.declared.error.kind.ErrorKind.TheVariants.{OutOfMemory}
-use Rattle.hy_cli.proofs.Parsed.{is_read, never_refused, read_obeys, refusal}
+use Rattle.hy_cli.specs.Matches.{meant}
+use Rattle.hy_cli.proofs.Parsed.{is_read, never_bare, never_refused, read_obeys, refusal}
 use Rattle.hy_cli.proofs.parsing.parse_texts.Goals as goal
 
 pub line_from-requires-clause-known : goal.line_from-requires-clause-known
@@ -36,6 +37,29 @@ returns-in-Some-clause-word c =
     let read = is_read (app_of c.in_ok-command.command) c.in-Ok.matches (map (λ t. t.now) c.args.words.now) c.in-Some.name.now (rows_of (found_of c.in-Some.found.now)) _
     c.in_ok-command.ensures m.kinds m.matches c.in-Some.ensures.name c.in-Some.ensures.rows in
     read.first ∙ ap (λ n. Some n) (sym c.line_from.ensures.word)
+
+pub returns-in-Some-clause-meaning : goal.returns-in-Some-clause-meaning
+returns-in-Some-clause-meaning c =
+    let m = c.in-Ok.ensures in
+    let read = is_read (app_of c.in_ok-command.command) c.in-Ok.matches (map (λ t. t.now) c.args.words.now) c.in-Some.name.now (rows_of (found_of c.in-Some.found.now)) _
+    c.in_ok-command.ensures m.kinds m.matches c.in-Some.ensures.name c.in-Some.ensures.rows in
+    (read.fault, ap meant read.entered ∙ c.line_from.ensures.line)
+
+pub returns-in-Some-clause-range : goal.returns-in-Some-clause-range
+returns-in-Some-clause-range c = c.line_from.ensures.range
+
+pub returns-in-Ok-clause-obeyed : goal.returns-in-Ok-clause-obeyed
+returns-in-Ok-clause-obeyed c =
+    let m = c.in-Ok.ensures in
+    λ l e. absurd (never_bare (app_of c.in_ok-command.command) c.in-Ok.matches (map (λ t. t.now) c.args.words.now) _ c.in_ok-command.ensures m.kinds m.matches c.in-None.ensures.name)
+
+pub returns-in-Ok-clause-unknown : goal.returns-in-Ok-clause-unknown
+returns-in-Ok-clause-unknown c = λ e. refl
+
+pub returns-in-Ok-clause-refused : goal.returns-in-Ok-clause-refused
+returns-in-Ok-clause-refused c =
+    let m = c.in-Ok.ensures in
+    λ e none. never_bare (app_of c.in_ok-command.command) c.in-Ok.matches (map (λ t. t.now) c.args.words.now) _ c.in_ok-command.ensures m.kinds m.matches c.in-None.ensures.name
 
 pub returns : goal.returns
 returns c =

@@ -2,7 +2,7 @@ use Rattle.std.proofs.Common.{rules, ◌≡◌, ◌+◌, ◌-◌, ◌≤◌, ℕ
 use Rattle.std.proofs.Math.Seq.{take-append-add}
 use Rattle.std.proofs.lemmas.List.{take-append-le}
 use Rattle.std.specs.Io.KnownBytes.{Consumes}
-use Rattle.std.proofs.KnownBytes.{Consumes-trans}
+use Rattle.std.proofs.KnownBytes.{Consumes-nil, Consumes-trans}
 use borrow.Rule.Slice.PartMut.{put_mid, post_of}
 use Rattle.hy_file.proofs.late.fill.Goals as goal
 
@@ -23,3 +23,24 @@ loop-count-preserved g c =
       read = subst (Consumes _ _) (sym front) (Consumes-trans _ _ _ _ _ c.loop-count.invariant.read c.in_ok-more.ensures.bytes);
       within = search rules;
     }
+
+pub loop-count-init : goal.loop-count-init
+loop-count-init g c = record { read = Consumes-nil (g.F.Read.remaining c.args.file.now); within = omega arith }
+
+pub returns-then-more-eq0-clause-bytes : goal.returns-then-more-eq0-clause-bytes
+returns-then-more-eq0-clause-bytes g c =
+    let count = c.loop-count.count in
+    let room = length c.loop-count.into - count in
+    let front = front_is count room c.in_ok-more.more c.loop-count.into c.read_some.new.into c.loop-count.invariant.within c.in_ok-more.ensures.bound.0 in
+    let none : count + c.in_ok-more.more ≡ count = omega (arith, c.if-more-eq0.true) in
+    subst (λ n. Consumes (g.F.Read.remaining c.args.file.now) (g.F.Read.remaining c.read_some.new.file) (take n (put_mid count room c.loop-count.into c.read_some.new.into))) none
+    (subst (Consumes _ _) (sym front) (Consumes-trans _ _ _ _ _ c.loop-count.invariant.read c.in_ok-more.ensures.bytes))
+
+pub returns-clause-bound : goal.returns-clause-bound
+returns-clause-bound g c = (c.loop-count.invariant.within, sym (length-take-le c.loop-count.count c.loop-count.into c.loop-count.invariant.within))
+
+pub returns-clause-bytes : goal.returns-clause-bytes
+returns-clause-bytes g c = c.loop-count.invariant.read
+
+pub returns-clause-end : goal.returns-clause-end
+returns-clause-end g c = λ less. absurd (omega (arith, less, c.loop-count-test.false))
