@@ -25,3 +25,15 @@ module _ {T E : Type 0} (result : Result T E) (e : E) where
 pub no_ok : {T E : Type 0} (P : T → Type 0) (result : Result T E) → IsErr result → IfOk result P
 no_ok P (Ok x) failed = no failed
 no_ok P (Err e) failed = tt
+
+pub none_ok : {T E : Type 0} (P : Type 0) (result : Result T E) → IsErr result → OnOk result P
+none_ok P (Ok x) failed = no failed
+none_ok P (Err e) failed = tt
+
+pub any_err : {T E : Type 0} (P : Type 0) (result : Result T E) → P → OnErr result P
+any_err P (Ok x) holds = tt
+any_err P (Err e) holds = holds
+
+pub then_ok : {T E : Type 0} (P Q : Type 0) (result : Result T E) → (P → Q) → OnOk result P → OnOk result Q
+then_ok P Q (Ok x) leads holds = leads holds
+then_ok P Q (Err e) leads holds = tt
