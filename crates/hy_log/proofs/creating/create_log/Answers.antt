@@ -4,6 +4,8 @@ use Rattle.hy_disk.proofs.Moments.{joined, weaker}
 use Rattle.hy_formats.specs.LogDevice.{IsFront}
 use Rattle.hy_log.specs.Gates.{IsGuarded, gate_opened}
 use Rattle.hy_log.proofs.Creation.{unborn_kept, creation_kept, born_front, born_closed, header_piece}
+use Rattle.hy_log.proofs.Looking.{cause_then}
+use Rattle.hy_log.proofs.Failing.{none_ok, any_err}
 use Rattle.hy_log.proofs.creating.create_log.Goals as goal
 
 on_ok : {T E : Type 0} {P Q : Type 0} (r : Result T E) → (P → Q) → OnOk r P → OnOk r Q
@@ -41,3 +43,18 @@ returns-clause-room g c k b has =
     let less = (c.in_ok-shut.ensures.room (k + 4) (b + 257) (subst (λ n. g.D.Disk.has_room c.args.disk.now n (b + 257 + 1)) calls (subst (λ n. g.D.Disk.has_room c.args.disk.now (k + 6) n) bytes has))).1 in
     let size : b + 257 ≡ b + 1 + length c.header_behind.result = omega (arith, ap length c.header_behind.ensures) in
     c.store.ensures.room k b (subst (λ n. g.D.Disk.has_room c.shut.new.disk (k + 4) n) size less)
+
+pub returns-in_err-shut-clause-born : goal.returns-in_err-shut-clause-born
+returns-in_err-shut-clause-born g c told = none_ok _ c.from_residual.result c.from_residual.ensures.0
+
+pub returns-in_err-shut-clause-cause : goal.returns-in_err-shut-clause-cause
+returns-in_err-shut-clause-cause g c = record { later = c.shut.ensures.cause.later; failed = any_err _ c.from_residual.result c.in_err-shut.ensures.cause.failed }
+
+pub returns-in_err-shut-clause-unarmed : goal.returns-in_err-shut-clause-unarmed
+returns-in_err-shut-clause-unarmed g c = c.shut.ensures.unarmed
+
+pub returns-clause-cause : goal.returns-clause-cause
+returns-clause-cause g c = cause_then g.D.Disk.content g.D.Disk.moment g.D.Disk.left_since g.D.Disk.faults_of g.D.Disk.has_room _ _ _ c.store.result c.shut.ensures.cause.later c.store.ensures.cause
+
+pub returns-clause-unarmed : goal.returns-clause-unarmed
+returns-clause-unarmed g c unarmed = c.store.ensures.unarmed (c.shut.ensures.unarmed unarmed)
