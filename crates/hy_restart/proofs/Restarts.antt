@@ -156,6 +156,9 @@ restart_stands laws s entries (Some c) good lawful valid within =
 -- ---- where a restart begins
 
 -- a part of a list, from one place to another
+pub part_length : {X : Type 0} (from to : ℕ) (xs : List X) → from ≤ to → to ≤ length xs → length (take (to - from) (drop from xs)) ≡ to - from
+part_length from to xs order within = length-take-le (to - from) (drop from xs) (omega (arith, length-drop from xs, order, within))
+
 pub part_is : {X : Type 0} (from to : ℕ) (xs : List X) → from ≤ to → take (to - from) (drop from xs) ≡ drop from (take to xs)
 part_is from to xs order = let size : from + (to - from) ≡ to = omega arith in sym (drop-take from (to - from) xs) ∙ ap (λ (n : ℕ). drop from (take n xs)) size
 
