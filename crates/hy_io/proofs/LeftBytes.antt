@@ -17,9 +17,9 @@ pub read_last : (old mid new : Option (List ℕ)) (seen buffer : List ℕ) (coun
     → count ≡ 0 → 0 < length buffer → Consumes old new seen × IsAtEnd new
 read_last old mid new seen buffer count before now none room =
     (subst (Consumes old new) (ap (λ n. seen ++ take n buffer) none ∙ ap (λ l. seen ++ l) (no_front buffer) ∙ append-nil seen) (Consumes-trans old mid new seen (take count buffer) before now.0), now.1 none room) where
-  no_front : (bytes : List ℕ) → take 0 bytes ≡ []
-  no_front [] = refl
-  no_front (b ∷ bytes) = refl
+      no_front : (bytes : List ℕ) → take 0 bytes ≡ []
+      no_front [] = refl
+      no_front (b ∷ bytes) = refl
 
 -- a front of the buffer is taken in behind what was seen
 pub taken_in : {T E : Type 0} (result : Result T E) (failed : Bool) (items seen buffer rest : List ℕ) (count : ℕ)

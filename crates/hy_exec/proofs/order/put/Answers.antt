@@ -39,8 +39,8 @@ loop-at-preserved g c =
     let before = g.T.Ordered.before in
     let within : at < length items = omega (arith, c.loop-at-test.true, c.len.ensures) in
     let more : take (at + 1) items ++ put before c.args.item (drop (at + 1) items) ≡ take at items ++ put before c.args.item (drop at items) =
-        subst (λ n. take n items ++ put before c.args.item (drop n items) ≡ take at items ++ put before c.args.item (drop at items)) (next at)
-        (goes_on before items at c.args.item c.index.result.now within c.index.ensures (sym c.is_past.ensures ∙ c.if-is_past.true)) in
+    subst (λ n. take n items ++ put before c.args.item (drop n items) ≡ take at items ++ put before c.args.item (drop at items)) (next at)
+    (goes_on before items at c.args.item c.index.result.now within c.index.ensures (sym c.is_past.ensures ∙ c.if-is_past.true)) in
     record {
       within = omega (arith, within);
       same = refl;

@@ -12,7 +12,7 @@ loop-entry-preserved c =
     let at = c.loop-entry.entry-index in
     let told = ap is_filler (sym c.entry-item.is ∙ sym c.get.ensures) ∙ sym c.is_filler.ensures in
     elim c.if-is_filler.branch [
-      then-is_filler w ↦ w.count-is ∙ ap (λ n. n + 1) c.loop-entry.invariant ∙ sym (count_by_more_yes is_filler entries at c.entry-item.result c.loop-entry-test.true (told ∙ w.if-is_filler.true))
+      | then-is_filler w ↦ w.count-is ∙ ap (λ n. n + 1) c.loop-entry.invariant ∙ sym (count_by_more_yes is_filler entries at c.entry-item.result c.loop-entry-test.true (told ∙ w.if-is_filler.true))
       | else-is_filler w ↦ w.count-is ∙ c.loop-entry.invariant ∙ sym (count_by_more_no is_filler entries at c.entry-item.result c.loop-entry-test.true (told ∙ w.if-is_filler.false))
     ]
 
