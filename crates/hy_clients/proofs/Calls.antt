@@ -9,20 +9,20 @@ use Rattle.hy_base.specs.declared.workload.Phase.{Phase}
 use Rattle.hy_base.specs.Script.{Workload}
 use Rattle.hy_hist.specs.Passes.{Lock, Known}
 use Rattle.hy_rolling.specs.Rolling.{Roll}
-use Rattle.hy_hub.specs.declared.mark.Occurrence.{Occurrence}
-use Rattle.hy_hub.specs.declared.mark.Occurrence.TheVariants.{Happened}
-use Rattle.hy_hub.specs.declared.mark.Begun.{Begun}
-use Rattle.hy_hub.specs.declared.mark.Backlog.{Backlog}
-use Rattle.hy_hub.specs.declared.mark.BeginRefusal.{BeginRefusal}
-use Rattle.hy_hub.specs.declared.mark.BeginRefusal.TheVariants.{Memory, OutOfTurn, Behind}
-use Rattle.hy_hub.specs.declared.mark.EndRefusal.{EndRefusal}
-use Rattle.hy_hub.specs.declared.mark.EndRefusal.TheVariants.{Memory as NoMemory, OutOfTurn as NotRunning}
-use Rattle.hy_hub.specs.declared.mark.AppendRefusal.{AppendRefusal}
-use Rattle.hy_hub.specs.declared.mark.AppendRefusal.TheVariants.{OutOfTurn as NotBegun, Full}
-use Rattle.hy_hub.specs.declared.mark.PadRefusal.{PadRefusal}
-use Rattle.hy_hub.specs.declared.mark.PadRefusal.TheVariants.{Memory as NoPlace, Even, Stopped as Halting, Device as Failing}
-use Rattle.hy_hub.specs.declared.mark.PublishRefusal.{PublishRefusal}
-use Rattle.hy_hub.specs.declared.mark.PublishRefusal.TheVariants.{Memory as NoRoom, Stale}
+use Rattle.hy_hub.specs.declared.occurrence.Occurrence.{Occurrence}
+use Rattle.hy_hub.specs.declared.occurrence.Occurrence.TheVariants.{Happened}
+use Rattle.hy_hub.specs.declared.occurrence.Begun.{Begun}
+use Rattle.hy_hub.specs.declared.occurrence.Backlog.{Backlog}
+use Rattle.hy_hub.specs.declared.occurrence.BeginRefusal.{BeginRefusal}
+use Rattle.hy_hub.specs.declared.occurrence.BeginRefusal.TheVariants.{Memory, OutOfTurn, Behind}
+use Rattle.hy_hub.specs.declared.occurrence.EndRefusal.{EndRefusal}
+use Rattle.hy_hub.specs.declared.occurrence.EndRefusal.TheVariants.{Memory as NoMemory, OutOfTurn as NotRunning}
+use Rattle.hy_hub.specs.declared.occurrence.AppendRefusal.{AppendRefusal}
+use Rattle.hy_hub.specs.declared.occurrence.AppendRefusal.TheVariants.{OutOfTurn as NotBegun, Full}
+use Rattle.hy_hub.specs.declared.occurrence.PadRefusal.{PadRefusal}
+use Rattle.hy_hub.specs.declared.occurrence.PadRefusal.TheVariants.{Memory as NoPlace, Even, Stopped as Halting, Device as Failing}
+use Rattle.hy_hub.specs.declared.occurrence.PublishRefusal.{PublishRefusal}
+use Rattle.hy_hub.specs.declared.occurrence.PublishRefusal.TheVariants.{Memory as NoRoom, Stale}
 use Rattle.hy_hub.specs.Calls.{OneTurn, OwnTurn, PadDoes, LookDoes, PublishDoes, BeginDoes, EndDoes, AppendDoes, IsIdle, len_of, board_at}
 use Rattle.hy_clients.specs.declared.answered.End as end
 use Rattle.hy_clients.specs.declared.answered.End.TheVariants.{Reading, EntryAt, FullLog}

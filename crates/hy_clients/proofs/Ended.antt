@@ -18,7 +18,7 @@ use Rattle.hy_rules.specs.History.{pairs_of}
 use Rattle.hy_rules.specs.Moves.{home_server}
 use Rattle.hy_rules.specs.Runs.{setting_of as script_setting, program_of, execution}
 use Rattle.hy_rules.specs.Validation.{live}
-use Rattle.hy_hub.specs.declared.mark.Occurrence.{Occurrence}
+use Rattle.hy_hub.specs.declared.occurrence.Occurrence.{Occurrence}
 use Rattle.hy_hub.specs.Trace.{state_after}
 use Rattle.hy_hub.specs.Hub.{IsHubHistory}
 use Rattle.hy_hub.specs.Calls.{len_of}

@@ -8,18 +8,18 @@ use Rattle.hy_base.specs.Lists.{nth}
 use Rattle.hy_base.specs.Script.{Workload}
 use Rattle.hy_rules.specs.Moves.{State, after, is_stop}
 use Rattle.hy_rules.specs.Runs.{Ended, Ending, ByReading, ByEntryAt, ByFullLog, setting_of as script_setting, begun_snap, ended_by}
-use Rattle.hy_hub.specs.declared.mark.Occurrence.{Occurrence}
-use Rattle.hy_hub.specs.declared.mark.Occurrence.TheVariants.{Opened, Happened, Halted, Lifted, Landed}
+use Rattle.hy_hub.specs.declared.occurrence.Occurrence.{Occurrence}
+use Rattle.hy_hub.specs.declared.occurrence.Occurrence.TheVariants.{Opened, Happened, Halted, Lifted, Landed}
 use Rattle.hy_hub.specs.Turns.{is_event_of}
 
--- the programs that end along the marks, from this state on
+-- the programs that end along the occurrences, from this state on
 abbrev pub endings : Workload → State → List Occurrence → List Ended
 endings script s [] = []
-endings script s (Opened o ∷ marks) = endings script s marks
-endings script s (Happened event added ∷ marks) = ended_by s event ++ endings script (after (script_setting script) s event added) marks
-endings script s (Halted at risen ∷ marks) = endings script s marks
-endings script s (Lifted batch ∷ marks) = endings script s marks
-endings script s (Landed ∷ marks) = endings script s marks
+endings script s (Opened o ∷ occurrences) = endings script s occurrences
+endings script s (Happened event added ∷ occurrences) = ended_by s event ++ endings script (after (script_setting script) s event added) occurrences
+endings script s (Halted at risen ∷ occurrences) = endings script s occurrences
+endings script s (Lifted batch ∷ occurrences) = endings script s occurrences
+endings script s (Landed ∷ occurrences) = endings script s occurrences
 
 abbrev pub is_end_of : ℕ → Ended → Bool
 is_end_of c e = e.client == c

@@ -10,11 +10,11 @@ use Rattle.hy_base.specs.Lists.{nth}
 use Rattle.hy_base.specs.Script.{Workload}
 use Rattle.hy_hist.specs.Passes.{Lock, Known, made}
 use Rattle.hy_hist.proofs.Lists.{prefix_trans}
-use Rattle.hy_hub.specs.declared.mark.Occurrence.{Occurrence}
+use Rattle.hy_hub.specs.declared.occurrence.Occurrence.{Occurrence}
 use Rattle.hy_hub.specs.Trace.{setting_in}
 use Rattle.hy_hub.specs.Hub.{IsHubHistory}
 use Rattle.hy_hub.specs.Calls.{IsIdle}
-use Rattle.hy_hub.specs.Turns.{is_mark_of}
+use Rattle.hy_hub.specs.Turns.{is_occurrence_of}
 use Rattle.hy_base.proofs.NthLemmas.{nth_some}
 use Rattle.hy_clients.specs.declared.answered.Answered.{Answered}
 use Rattle.hy_clients.specs.Programs.{AreServed}
@@ -72,7 +72,7 @@ spreads_more lock script old pass next one tasks t room later at run so_far coun
       part = part;
       own = own.0;
       is_own = own.1;
-      nothing = ap (filter (λ (turn : ℕ × Occurrence). is_mark_of (at + 1) turn.1)) nothing;
+      nothing = ap (filter (λ (turn : ℕ × Occurrence). is_occurrence_of (at + 1) turn.1)) nothing;
       untold = refl;
     } in
     let n : length (tasks ++ t ∷ []) ≡ length tasks + 1 = omega (arith, length-append tasks (t ∷ [])) in

@@ -17,7 +17,7 @@ use Rattle.hy_rules.specs.Moves.{Setting}
 use Rattle.hy_rolling.specs.Rolling.{Roll, rolled_upto, Stands}
 use Rattle.hy_rules.specs.Runs.{setting_of as script_setting, opening_of, ended_in, results_at}
 use Rattle.hy_rules.specs.Validation.{verdicts}
-use Rattle.hy_hub.specs.declared.mark.Occurrence.{Occurrence}
+use Rattle.hy_hub.specs.declared.occurrence.Occurrence.{Occurrence}
 use Rattle.hy_hub.specs.Trace.{setting_in, state_after}
 use Rattle.hy_hub.specs.Hub.{IsBoard}
 use Rattle.hy_hub.specs.Calls.{events_in_list}

@@ -18,8 +18,8 @@ use Rattle.hy_rules.specs.Moves.{Setting}
 use Rattle.hy_rolling.specs.Rolling.{Roll, rolled_upto, Stands}
 use Rattle.hy_rules.specs.Runs.{setting_of as script_setting}
 use Rattle.hy_hub.specs.Origin.{Origin}
-use Rattle.hy_hub.specs.declared.mark.Occurrence.{Occurrence}
-use Rattle.hy_hub.specs.declared.mark.Occurrence.TheVariants.{Opened}
+use Rattle.hy_hub.specs.declared.occurrence.Occurrence.{Occurrence}
+use Rattle.hy_hub.specs.declared.occurrence.Occurrence.TheVariants.{Opened}
 use Rattle.hy_hub.specs.Trace.{setting_in, state_after}
 use Rattle.hy_hub.specs.Hub.{IsBoard, IsHubHistory, IsTornLog}
 use Rattle.hy_hub.specs.Close.{IsClosed}

@@ -16,8 +16,8 @@ use Rattle.hy_rules.specs.Runs.{setting_of as script_setting}
 use Rattle.hy_rules.specs.Validation.{live, rows}
 use Rattle.hy_pipe.specs.RollerLaws.{IsOfLonger}
 use Rattle.hy_pipe.proofs.Standing.{growth_keeps_standing}
-use Rattle.hy_hub.specs.declared.mark.Occurrence.{Occurrence}
-use Rattle.hy_hub.specs.declared.mark.Occurrence.TheVariants.{Opened, Happened, Halted, Lifted, Landed}
+use Rattle.hy_hub.specs.declared.occurrence.Occurrence.{Occurrence}
+use Rattle.hy_hub.specs.declared.occurrence.Occurrence.TheVariants.{Opened, Happened, Halted, Lifted, Landed}
 use Rattle.hy_hub.specs.Origin.{Origin}
 use Rattle.hy_hub.specs.Trace.{setting, setting_in, state_after}
 use Rattle.hy_hub.specs.Hub.{IsHubHistory, IsBoardAt}
@@ -75,11 +75,11 @@ roller_live script list r told same within is =
 
 pub roller_at : (list : List Occurrence) (at : ℕ) (r : Roll) → IsRollerOf list at r → rolled_upto r ≡ at
 roller_at [] at r is = absurd is
-roller_at (Opened o ∷ marks) at r is = is.2
-roller_at (Happened event added ∷ marks) at r is = absurd is
-roller_at (Halted at' risen ∷ marks) at r is = absurd is
-roller_at (Lifted batch ∷ marks) at r is = absurd is
-roller_at (Landed ∷ marks) at r is = absurd is
+roller_at (Opened o ∷ occurrences) at r is = is.2
+roller_at (Happened event added ∷ occurrences) at r is = absurd is
+roller_at (Halted at' risen ∷ occurrences) at r is = absurd is
+roller_at (Lifted batch ∷ occurrences) at r is = absurd is
+roller_at (Landed ∷ occurrences) at r is = absurd is
 
 -- ---- a board
 

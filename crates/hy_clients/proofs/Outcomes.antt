@@ -18,8 +18,8 @@ use Rattle.hy_rules.specs.Runs.{verdict_at, outcome_of}
 use Rattle.hy_rules.specs.Validation.{verdicts, verdicts_after}
 use Rattle.hy_pipe.specs.Telling.{kept_verdict}
 use Rattle.hy_pipe.proofs.Standing.{verdict_past}
-use Rattle.hy_hub.specs.declared.mark.Occurrence.{Occurrence}
-use Rattle.hy_hub.specs.declared.mark.Occurrence.TheVariants.{Opened, Happened, Halted, Lifted, Landed}
+use Rattle.hy_hub.specs.declared.occurrence.Occurrence.{Occurrence}
+use Rattle.hy_hub.specs.declared.occurrence.Occurrence.TheVariants.{Opened, Happened, Halted, Lifted, Landed}
 use Rattle.hy_hub.specs.Trace.{state_after}
 use Rattle.hy_hub.specs.Hub.{IsHubHistory}
 use Rattle.hy_hub.proofs.Passing.{log_more}
@@ -76,7 +76,7 @@ module _ (log : List EntryKind) (r : Roll) (good : IsGoodShape r.shape) (st : St
 
 -- ---- programs are appended past the log that was found
 
-past_end : (from len : ℕ) (mark : Occurrence) (e : end.End) → from ≤ len → EndsAs len mark e → IsPast from e
+past_end : (from len : ℕ) (occurrence : Occurrence) (e : end.End) → from ≤ len → EndsAs len occurrence e → IsPast from e
 past_end from len (Opened o) e low is = absurd is
 past_end from len (Halted at risen) e low is = absurd is
 past_end from len (Lifted batch) e low is = absurd is

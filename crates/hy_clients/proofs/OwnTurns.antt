@@ -6,9 +6,9 @@ use Rattle.std.proofs.lemmas.List.Sums.{length-filter}
 use mathlib.Core.List.{IsPrefix}
 use Rattle.hy_base.specs.Script.{Workload}
 use Rattle.hy_hist.specs.Passes.{Known, Makes, made, masked, at_place, count_made}
-use Rattle.hy_hub.specs.declared.mark.Occurrence.{Occurrence}
+use Rattle.hy_hub.specs.declared.occurrence.Occurrence.{Occurrence}
 use Rattle.hy_hub.specs.Calls.{placed_at}
-use Rattle.hy_hub.specs.Turns.{is_mark_of}
+use Rattle.hy_hub.specs.Turns.{is_occurrence_of}
 use Rattle.hy_clients.specs.declared.answered.Answered.{Answered}
 use Rattle.hy_clients.specs.Programs.{AreServed}
 use Rattle.hy_clients.specs.Passing.{own_turns}
@@ -47,13 +47,13 @@ module _ {T : Type 0} where
       let rest = all_made is (suc j) xs more bs (λ k y e z. let next : j + suc k ≡ suc j + k = omega arith in subst (λ n. at_place n (masked (suc j) xs bs) ≡ Some y) next (all (suc k) y e z)) in
       rest ∙ sym (not_kept (is x) _ _ (λ y. absurd (cc (none, all 0 x refl y))))
 
--- the client's turns in these marks, the first of which has this place
+-- the client's turns in these occurrences, the first of which has this place
 abbrev pub own_from : ℕ → ℕ → List Occurrence → List (ℕ × Occurrence)
-own_from client k marks = filter (λ turn. is_mark_of client turn.1) (placed_at k marks)
+own_from client k occurrences = filter (λ turn. is_occurrence_of client turn.1) (placed_at k occurrences)
 
-pub own_is : (pass : Known Occurrence) (list : List Occurrence) (c : ℕ) → IsPrefix pass.seen list → ((k : ℕ) (mark : Occurrence) → slice_get list k ≡ Some mark → is_mark_of c mark ≡ true → Makes pass k mark) → own_turns c pass ≡ own_from c 0 list
+pub own_is : (pass : Known Occurrence) (list : List Occurrence) (c : ℕ) → IsPrefix pass.seen list → ((k : ℕ) (occurrence : Occurrence) → slice_get list k ≡ Some occurrence → is_occurrence_of c occurrence ≡ true → Makes pass k occurrence) → own_turns c pass ≡ own_from c 0 list
 own_is pass list c p all =
-    all_made (is_mark_of c) 0 pass.seen p.0 pass.mask (λ k x e y. let same : k ≡ 0 + k = omega arith in subst (λ n. at_place n (made pass) ≡ Some x) same (all k x (ap (λ l. slice_get l k) (sym p.1) ∙ e) y))
+    all_made (is_occurrence_of c) 0 pass.seen p.0 pass.mask (λ k x e y. let same : k ≡ 0 + k = omega arith in subst (λ n. at_place n (made pass) ≡ Some x) same (all k x (ap (λ l. slice_get l k) (sym p.1) ∙ e) y))
     ∙ ap (own_from c 0) p.1
 
 -- ---- two turns a program
@@ -65,5 +65,5 @@ turn_count script c number list (first ∷ []) told are = absurd are
 turn_count script c number list (first ∷ (last ∷ turns)) [] are = absurd are
 turn_count script c number list (first ∷ (last ∷ turns)) (t ∷ told) are = let rest = turn_count script c (number + 1) list turns told are.1 in omega (arith, rest)
 
-pub made_twice : (script : Workload) (c : ℕ) (pass : Known Occurrence) (told : List Answered) → AreServed script c 1 pass.seen (own_turns c pass) told → count_made (is_mark_of c) pass ≡ 2 * length told
-made_twice script c pass told are = sym (length-filter (λ (e : ℕ × Occurrence). is_mark_of c e.1) (made pass)) ∙ turn_count script c 1 pass.seen (own_turns c pass) told are
+pub made_twice : (script : Workload) (c : ℕ) (pass : Known Occurrence) (told : List Answered) → AreServed script c 1 pass.seen (own_turns c pass) told → count_made (is_occurrence_of c) pass ≡ 2 * length told
+made_twice script c pass told are = sym (length-filter (λ (e : ℕ × Occurrence). is_occurrence_of c e.1) (made pass)) ∙ turn_count script c 1 pass.seen (own_turns c pass) told are

@@ -12,8 +12,8 @@ use Rattle.hy_base.specs.Lists.{nth}
 use Rattle.hy_base.specs.Script.{Workload}
 use Rattle.hy_rules.specs.Moves.{State, after, board_of, home_server, begun_at, enabled}
 use Rattle.hy_rules.specs.Runs.{Ended, setting_of as script_setting, suits, added as entries, ended_by}
-use Rattle.hy_hub.specs.declared.mark.Occurrence.{Occurrence}
-use Rattle.hy_hub.specs.declared.mark.Occurrence.TheVariants.{Happened}
+use Rattle.hy_hub.specs.declared.occurrence.Occurrence.{Occurrence}
+use Rattle.hy_hub.specs.declared.occurrence.Occurrence.TheVariants.{Happened}
 use Rattle.hy_hub.specs.Trace.{state_after, setting_in}
 use Rattle.hy_hub.specs.Calls.{board_at}
 use Rattle.hy_clients.specs.declared.answered.Answered.{Answered}
@@ -89,35 +89,35 @@ begin_turn script c list k s added x turns told here steady can none at goes =
 -- ---- a program ends
 
 -- what the turn that ends a program says of it
-pub record Closes (script : Workload) (c number : ℕ) (s : State) (snap : ℕ) (list : List Occurrence) (mark : Occurrence) (turns : List (ℕ × Occurrence)) (told : List Answered) : Type 0 where
+pub record Closes (script : Workload) (c number : ℕ) (s : State) (snap : ℕ) (list : List Occurrence) (occurrence : Occurrence) (turns : List (ℕ × Occurrence)) (told : List Answered) : Type 0 where
   pub t : Answered
   pub left : List Answered
   pub told_is : told ≡ t ∷ left
   pub snap_is : t.snap ≡ snap
-  pub ends : EndsProgram script c snap (effects_on script s.log c number snap) mark
-  pub ends_as : EndsAs (length s.log) mark t.end
+  pub ends : EndsProgram script c snap (effects_on script s.log c number snap) occurrence
+  pub ends_as : EndsAs (length s.log) occurrence t.end
   pub answers : t.answers ≡ answers_given script s.log c number t.snap
   pub rest : AreServed script c (number + 1) list turns left
 
-pub closing : (script : Workload) (c number : ℕ) (s : State) (snap : ℕ) (list : List Occurrence) (k : ℕ) (mark : Occurrence) (turns : List (ℕ × Occurrence)) (told : List Answered) → StateIsAt script list k s → Works script c number list snap ((k, mark) ∷ turns) told → Closes script c number s snap list mark turns told
-closing script c number s snap list k mark turns [] here works = absurd works
-closing script c number s snap list k mark turns (t ∷ left) here works =
-    let is : IsServed script c number list works.0 (k, mark) t = works.2 in
-    let ends : EndsProgram script c t.snap (effects_on script s.log c number t.snap) mark = subst (λ (z : State). EndsProgram script c t.snap (effects_on script z.log c number t.snap) mark) here.state (is.ends here.stood) in record {
+pub closing : (script : Workload) (c number : ℕ) (s : State) (snap : ℕ) (list : List Occurrence) (k : ℕ) (occurrence : Occurrence) (turns : List (ℕ × Occurrence)) (told : List Answered) → StateIsAt script list k s → Works script c number list snap ((k, occurrence) ∷ turns) told → Closes script c number s snap list occurrence turns told
+closing script c number s snap list k occurrence turns [] here works = absurd works
+closing script c number s snap list k occurrence turns (t ∷ left) here works =
+    let is : IsServed script c number list works.0 (k, occurrence) t = works.2 in
+    let ends : EndsProgram script c t.snap (effects_on script s.log c number t.snap) occurrence = subst (λ (z : State). EndsProgram script c t.snap (effects_on script z.log c number t.snap) occurrence) here.state (is.ends here.stood) in record {
       t = t;
       left = left;
       told_is = refl;
       snap_is = works.1;
-      ends = subst (λ (n : ℕ). EndsProgram script c n (effects_on script s.log c number n) mark) works.1 ends;
-      ends_as = subst (λ (z : State). EndsAs (length z.log) mark t.end) here.state is.ends_as;
+      ends = subst (λ (n : ℕ). EndsProgram script c n (effects_on script s.log c number n) occurrence) works.1 ends;
+      ends_as = subst (λ (z : State). EndsAs (length z.log) occurrence t.end) here.state is.ends_as;
       answers = is.answers here.stood ∙ ap (λ (z : State). answers_given script z.log c number t.snap) here.state;
       rest = works.3;
     }
 
-pub close_turn : (script : Workload) (c : ℕ) (list : List Occurrence) (s : State) (event : Event) (added : List EntryKind) (x : Session) (snap : ℕ) (mark : Occurrence) (turns : List (ℕ × Occurrence)) (told : List Answered) (new : Session)
-    → Closes script c x.next s snap list mark turns told → Fits script s event added → nth (after (script_setting script) s event added).sessions c ≡ Some new → new.next ≡ suc x.next → new.phase ≡ Idle → snap ≤ length s.log
-    → ((t : Answered) → t.snap ≡ snap → EndsAs (length s.log) mark t.end → ended_by s event ≡ ended_program c x.next t ∷ []) → IsTurn script c list s event added x turns told
-close_turn script c list s event added x snap mark turns told new cl fits at next idle within ended =
+pub close_turn : (script : Workload) (c : ℕ) (list : List Occurrence) (s : State) (event : Event) (added : List EntryKind) (x : Session) (snap : ℕ) (occurrence : Occurrence) (turns : List (ℕ × Occurrence)) (told : List Answered) (new : Session)
+    → Closes script c x.next s snap list occurrence turns told → Fits script s event added → nth (after (script_setting script) s event added).sessions c ≡ Some new → new.next ≡ suc x.next → new.phase ≡ Idle → snap ≤ length s.log
+    → ((t : Answered) → t.snap ≡ snap → EndsAs (length s.log) occurrence t.end → ended_by s event ≡ ended_program c x.next t ∷ []) → IsTurn script c list s event added x turns told
+close_turn script c list s event added x snap occurrence turns told new cl fits at next idle within ended =
     let up : x.next + 1 ≡ new.next = omega (arith, next) in
     let here : ended_by s event ≡ ended_program c x.next cl.t ∷ [] = ended cl.t cl.snap_is cl.ends_as in record {
       fits = fits;

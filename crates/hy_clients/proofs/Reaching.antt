@@ -17,13 +17,13 @@ use Rattle.hy_hist.specs.Passes.{Lock, Known, made}
 use Rattle.hy_rules.specs.Moves.{Setting, State, after, board_of}
 use Rattle.hy_rolling.specs.Rolling.{Roll, rolled_upto, roll_on}
 use Rattle.hy_hub.specs.Origin.{Origin}
-use Rattle.hy_hub.specs.declared.mark.Occurrence.{Occurrence}
-use Rattle.hy_hub.specs.declared.mark.Occurrence.TheVariants.{Opened, Happened, Halted, Lifted, Landed}
-use Rattle.hy_hub.specs.declared.mark.Backlog.{Backlog}
-use Rattle.hy_hub.specs.declared.mark.PadRefusal.{PadRefusal}
-use Rattle.hy_hub.specs.declared.mark.PadRefusal.TheVariants.{Memory as NoPlace, Even, Stopped, Device}
-use Rattle.hy_hub.specs.declared.mark.PublishRefusal.{PublishRefusal}
-use Rattle.hy_hub.specs.declared.mark.PublishRefusal.TheVariants.{Memory as NoRoom, Stale}
+use Rattle.hy_hub.specs.declared.occurrence.Occurrence.{Occurrence}
+use Rattle.hy_hub.specs.declared.occurrence.Occurrence.TheVariants.{Opened, Happened, Halted, Lifted, Landed}
+use Rattle.hy_hub.specs.declared.occurrence.Backlog.{Backlog}
+use Rattle.hy_hub.specs.declared.occurrence.PadRefusal.{PadRefusal}
+use Rattle.hy_hub.specs.declared.occurrence.PadRefusal.TheVariants.{Memory as NoPlace, Even, Stopped, Device}
+use Rattle.hy_hub.specs.declared.occurrence.PublishRefusal.{PublishRefusal}
+use Rattle.hy_hub.specs.declared.occurrence.PublishRefusal.TheVariants.{Memory as NoRoom, Stale}
 use Rattle.hy_hub.specs.Trace.{setting, opening_state, setting_in, state_after}
 use Rattle.hy_hub.specs.Hub.{IsBoardAt, IsHubHistory}
 use Rattle.hy_hub.specs.Calls.{OneTurn, PadTurn, PadDoes, LookDoes, PublishDoes, TraceDoes, IsRollerOf, len_of, lack_of, events_in_list}
@@ -86,11 +86,11 @@ padded padder (Err Device) o past list added now begins calm pos e does held = a
 
 roller_at : (list : List Occurrence) (at : ℕ) (r : Roll) → IsRollerOf list at r → rolled_upto r ≡ at
 roller_at [] at r is = absurd is
-roller_at (Opened o ∷ marks) at r is = is.2
-roller_at (Happened event added ∷ marks) at r is = absurd is
-roller_at (Halted p risen ∷ marks) at r is = absurd is
-roller_at (Lifted batch ∷ marks) at r is = absurd is
-roller_at (Landed ∷ marks) at r is = absurd is
+roller_at (Opened o ∷ occurrences) at r is = is.2
+roller_at (Happened event added ∷ occurrences) at r is = absurd is
+roller_at (Halted p risen ∷ occurrences) at r is = absurd is
+roller_at (Lifted batch ∷ occurrences) at r is = absurd is
+roller_at (Landed ∷ occurrences) at r is = absurd is
 
 -- a look gives all entries past the board, where the last group is whole
 pub looked : (server : ℕ) (look : Backlog) (list : List Occurrence) → IsHubHistory list → len_of list % (setting_in list).shape.group ≡ 0 → LookDoes server (Ok look) list [] → board_of (state_after list) server + length look.entries ≡ len_of list
@@ -233,11 +233,11 @@ publishes {all} first second third server look r publish is even alone same look
 pub even_at : (lock : Lock) (script : Workload) (pass : Known Occurrence) → IsRunPass lock script pass → len_of pass.seen % script.shape.group ≡ 0 → len_of pass.seen % (setting_in pass.seen).shape.group ≡ 0
 even_at lock script pass run even = ap (λ (w : Setting). len_of pass.seen % w.shape.group) run.setting_is ∙ even
 
--- marks that are no events lead on to the same state
+-- occurrences that are no events lead on to the same state
 still : (list quiet : List Occurrence) → IsHubHistory list → events_in_list quiet ≡ [] → state_after (list ++ quiet) ≡ state_after list
 still list quiet is none = let t = is.told in opened_on list is.opened t.past quiet t.begins ∙ quiet_led (setting is.opened) (state_after list) quiet none
 
--- A pad by a pass that has all parts. Around its own item stand marks that are no events.
+-- A pad by a pass that has all parts. Around its own item stand occurrences that are no events.
 pub pads_alone : {all : ℕ} (old new : Known Occurrence) (padder : ℕ) (pad : Result ℕ PadRefusal) → PadTurn all old new (PadDoes padder pad) → old.parts ≡ all → IsHubHistory old.seen → IsPadded pad → len_of new.seen % (setting_in old.seen).shape.group ≡ 0
 pads_alone {all} old new padder pad turn alone is held =
     let t = turn.turn in

@@ -14,8 +14,8 @@ use Rattle.hy_base.specs.Script.{Workload}
 use Rattle.hy_rules.specs.Moves.{State, after, opening}
 use Rattle.hy_rules.specs.Runs.{Ended, setting_of as script_setting, ended_by, ended_in, outcome_of, answers_to, reply_of, replies_to}
 use Rattle.hy_rules.specs.Validation.{verdicts}
-use Rattle.hy_hub.specs.declared.mark.Occurrence.{Occurrence}
-use Rattle.hy_hub.specs.declared.mark.Occurrence.TheVariants.{Opened, Happened, Halted, Lifted, Landed}
+use Rattle.hy_hub.specs.declared.occurrence.Occurrence.{Occurrence}
+use Rattle.hy_hub.specs.declared.occurrence.Occurrence.TheVariants.{Opened, Happened, Halted, Lifted, Landed}
 use Rattle.hy_hub.specs.Trace.{AreMoves, state_after}
 use Rattle.hy_hub.specs.Calls.{events_in_list}
 use Rattle.hy_clients.specs.declared.answered.Answered.{Answered}
@@ -31,15 +31,15 @@ use Rattle.hy_clients.proofs.RunLaw.{client_told, moves_are, state_is, walked, f
 
 -- ---- the ends of the run are those of the list
 
-ends_are : (script : Workload) (s : State) (marks : List Occurrence) → AreMoves (script_setting script) s marks → AreFit script s marks → ended_in script s (events_in_list marks) ≡ endings script s marks
+ends_are : (script : Workload) (s : State) (occurrences : List Occurrence) → AreMoves (script_setting script) s occurrences → AreFit script s occurrences → ended_in script s (events_in_list occurrences) ≡ endings script s occurrences
 ends_are script s [] all fit = refl
-ends_are script s (Opened o ∷ marks) all fit = absurd all
-ends_are script s (Halted at risen ∷ marks) all fit = ends_are script s marks all fit
-ends_are script s (Lifted batch ∷ marks) all fit = ends_are script s marks all fit
-ends_are script s (Landed ∷ marks) all fit = ends_are script s marks all fit
-ends_are script s (Happened event added ∷ marks) all fit =
-    ap (λ (o : Option State). ended_by s event ++ option_map_or (λ next. ended_in script next (events_in_list marks)) o []) (step_is script s event added all.0.may_happen fit.0)
-    ∙ ap (λ (l : List Ended). ended_by s event ++ l) (ends_are script (after (script_setting script) s event added) marks all.2 fit.1)
+ends_are script s (Opened o ∷ occurrences) all fit = absurd all
+ends_are script s (Halted at risen ∷ occurrences) all fit = ends_are script s occurrences all fit
+ends_are script s (Lifted batch ∷ occurrences) all fit = ends_are script s occurrences all fit
+ends_are script s (Landed ∷ occurrences) all fit = ends_are script s occurrences all fit
+ends_are script s (Happened event added ∷ occurrences) all fit =
+    ap (λ (o : Option State). ended_by s event ++ option_map_or (λ next. ended_in script next (events_in_list occurrences)) o []) (step_is script s event added all.0.may_happen fit.0)
+    ∙ ap (λ (l : List Ended). ended_by s event ++ l) (ends_are script (after (script_setting script) s event added) occurrences all.2 fit.1)
 
 -- ---- the first item that passes two tests
 

@@ -11,7 +11,7 @@ use Rattle.hy_base.specs.Lists.{nth}
 use Rattle.hy_base.specs.Script.{Workload}
 use Rattle.hy_rules.specs.Moves.{Setting, State, opening, fresh_session, is_stop}
 use Rattle.hy_rules.specs.Runs.{setting_of as script_setting, run}
-use Rattle.hy_hub.specs.declared.mark.Occurrence.{Occurrence}
+use Rattle.hy_hub.specs.declared.occurrence.Occurrence.{Occurrence}
 use Rattle.hy_hub.specs.Trace.{setting, setting_in, state_after, after_all, AreMoves}
 use Rattle.hy_hub.specs.Hub.{IsHubHistory}
 use Rattle.hy_hub.specs.Calls.{events_in_list}

@@ -15,8 +15,8 @@ use Rattle.hy_base.specs.Lists.{nth}
 use Rattle.hy_base.specs.Script.{Workload}
 use Rattle.hy_rules.specs.Moves.{Setting, State, Moves, after, enabled, is_begun, client_passes, is_stop}
 use Rattle.hy_rules.specs.Runs.{setting_of as script_setting, suits, added as entries, step, run, is_done}
-use Rattle.hy_hub.specs.declared.mark.Occurrence.{Occurrence}
-use Rattle.hy_hub.specs.declared.mark.Occurrence.TheVariants.{Opened, Happened, Halted, Lifted, Landed}
+use Rattle.hy_hub.specs.declared.occurrence.Occurrence.{Occurrence}
+use Rattle.hy_hub.specs.declared.occurrence.Occurrence.TheVariants.{Opened, Happened, Halted, Lifted, Landed}
 use Rattle.hy_hub.specs.Trace.{after_all, AreMoves}
 use Rattle.hy_hub.specs.Calls.{events_in_list}
 use Rattle.hy_base.proofs.NthLemmas.{left_of, both}
@@ -28,43 +28,43 @@ use Rattle.hy_clients.proofs.Walk.{AreFitOf}
 -- each event fits the script, from this state on
 abbrev pub AreFit : Workload → State → List Occurrence → Type 0
 AreFit script s [] = ⊤
-AreFit script s (Opened o ∷ marks) = AreFit script s marks
-AreFit script s (Happened event added ∷ marks) = Fits script s event added × AreFit script (after (script_setting script) s event added) marks
-AreFit script s (Halted at risen ∷ marks) = AreFit script s marks
-AreFit script s (Lifted batch ∷ marks) = AreFit script s marks
-AreFit script s (Landed ∷ marks) = AreFit script s marks
+AreFit script s (Opened o ∷ occurrences) = AreFit script s occurrences
+AreFit script s (Happened event added ∷ occurrences) = Fits script s event added × AreFit script (after (script_setting script) s event added) occurrences
+AreFit script s (Halted at risen ∷ occurrences) = AreFit script s occurrences
+AreFit script s (Lifted batch ∷ occurrences) = AreFit script s occurrences
+AreFit script s (Landed ∷ occurrences) = AreFit script s occurrences
 
 pub step_is : (script : Workload) (s : State) (event : Event) (added : List EntryKind) → enabled (script_setting script) s event ≡ true → Fits script s event added → step script s event ≡ Some (after (script_setting script) s event added)
 step_is script s event added can fits =
     ap (λ b. if b then Some (after (script_setting script) s event (entries script s event)) else None) (both (enabled (script_setting script) s event) (suits script s event) can fits.0)
     ∙ ap (λ (l : List EntryKind). Some (after (script_setting script) s event l)) (sym fits.1)
 
-pub runs : (script : Workload) (s : State) (marks : List Occurrence) → AreMoves (script_setting script) s marks → AreFit script s marks → run script s (events_in_list marks) ≡ Some (after_all (script_setting script) s marks)
+pub runs : (script : Workload) (s : State) (occurrences : List Occurrence) → AreMoves (script_setting script) s occurrences → AreFit script s occurrences → run script s (events_in_list occurrences) ≡ Some (after_all (script_setting script) s occurrences)
 runs script s [] all fit = refl
-runs script s (Opened o ∷ marks) all fit = absurd all
-runs script s (Halted at risen ∷ marks) all fit = runs script s marks all fit
-runs script s (Lifted batch ∷ marks) all fit = runs script s marks all fit
-runs script s (Landed ∷ marks) all fit = runs script s marks all fit
-runs script s (Happened event added ∷ marks) all fit =
-    ap (option_and_then (λ next. run script next (events_in_list marks))) (step_is script s event added all.0.may_happen fit.0)
-    ∙ runs script (after (script_setting script) s event added) marks all.2 fit.1
+runs script s (Opened o ∷ occurrences) all fit = absurd all
+runs script s (Halted at risen ∷ occurrences) all fit = runs script s occurrences all fit
+runs script s (Lifted batch ∷ occurrences) all fit = runs script s occurrences all fit
+runs script s (Landed ∷ occurrences) all fit = runs script s occurrences all fit
+runs script s (Happened event added ∷ occurrences) all fit =
+    ap (option_and_then (λ next. run script next (events_in_list occurrences))) (step_is script s event added all.0.may_happen fit.0)
+    ∙ runs script (after (script_setting script) s event added) occurrences all.2 fit.1
 
-pub no_stops : (w : Setting) (s : State) (marks : List Occurrence) → AreMoves w s marks → list_any is_stop (events_in_list marks) ≡ false
+pub no_stops : (w : Setting) (s : State) (occurrences : List Occurrence) → AreMoves w s occurrences → list_any is_stop (events_in_list occurrences) ≡ false
 no_stops w s [] all = refl
-no_stops w s (Opened o ∷ marks) all = absurd all
-no_stops w s (Halted at risen ∷ marks) all = no_stops w s marks all
-no_stops w s (Lifted batch ∷ marks) all = no_stops w s marks all
-no_stops w s (Landed ∷ marks) all = no_stops w s marks all
-no_stops w s (Happened event added ∷ marks) all = rw all.1 (no_stops w (after w s event added) marks all.2)
+no_stops w s (Opened o ∷ occurrences) all = absurd all
+no_stops w s (Halted at risen ∷ occurrences) all = no_stops w s occurrences all
+no_stops w s (Lifted batch ∷ occurrences) all = no_stops w s occurrences all
+no_stops w s (Landed ∷ occurrences) all = no_stops w s occurrences all
+no_stops w s (Happened event added ∷ occurrences) all = rw all.1 (no_stops w (after w s event added) occurrences all.2)
 
 -- each event is a move
-pub moves : (w : Setting) (s : State) (marks : List Occurrence) → AreMoves w s marks → LeadTo w s (events_in_list marks) (after_all w s marks)
+pub moves : (w : Setting) (s : State) (occurrences : List Occurrence) → AreMoves w s occurrences → LeadTo w s (events_in_list occurrences) (after_all w s occurrences)
 moves w s [] all = refl
-moves w s (Opened o ∷ marks) all = absurd all
-moves w s (Halted at risen ∷ marks) all = moves w s marks all
-moves w s (Lifted batch ∷ marks) all = moves w s marks all
-moves w s (Landed ∷ marks) all = moves w s marks all
-moves w s (Happened event added ∷ marks) all = (added, all.0, moves w (after w s event added) marks all.2)
+moves w s (Opened o ∷ occurrences) all = absurd all
+moves w s (Halted at risen ∷ occurrences) all = moves w s occurrences all
+moves w s (Lifted batch ∷ occurrences) all = moves w s occurrences all
+moves w s (Landed ∷ occurrences) all = moves w s occurrences all
+moves w s (Happened event added ∷ occurrences) all = (added, all.0, moves w (after w s event added) occurrences all.2)
 
 -- ---- each event is of a client that was served, or of none
 
@@ -81,26 +81,26 @@ declared script s d test can =
     nth_unmapped (λ (c : Client). let h : Home = record { server = c.server; programs = length c.programs } in h) script.clients d k.0 k.2
 
 abbrev EachFits : Workload → State → List Occurrence → Type 0
-EachFits script s marks = (c : ℕ) (client : Client) → nth script.clients c ≡ Some client → AreFitOf script c s marks
+EachFits script s occurrences = (c : ℕ) (client : Client) → nth script.clients c ≡ Some client → AreFitOf script c s occurrences
 
-fits_here : (script : Workload) (s : State) (event : Event) (added : List EntryKind) (marks : List Occurrence) → Moves (script_setting script) s event added (after (script_setting script) s event added) → is_stop event ≡ false
-    → EachFits script s (Happened event added ∷ marks) → Fits script s event added
-fits_here script s (Begin d) added marks move n each = (refl, move.may_add)
-fits_here script s (Append d) added marks move n each = let k = declared script s d (λ home session. is_begun session.phase) (left_of _ _ move.may_happen) in (each d k.0 k.1).0 (eq-eqb d d refl)
-fits_here script s (End d) added marks move n each = let k = declared script s d (λ home session. is_begun session.phase) move.may_happen in (each d k.0 k.1).0 (eq-eqb d d refl)
-fits_here script s (Refuse d) added marks move n each = let k = declared script s d (λ home session. is_begun session.phase) (left_of _ _ move.may_happen) in (each d k.0 k.1).0 (eq-eqb d d refl)
-fits_here script s (Pad server) added marks move n each = (refl, move.may_add)
-fits_here script s (Publish server upto) added marks move n each = (refl, move.may_add)
-fits_here script s (Stop call pattern) added marks move n each = absurd (cc n)
+fits_here : (script : Workload) (s : State) (event : Event) (added : List EntryKind) (occurrences : List Occurrence) → Moves (script_setting script) s event added (after (script_setting script) s event added) → is_stop event ≡ false
+    → EachFits script s (Happened event added ∷ occurrences) → Fits script s event added
+fits_here script s (Begin d) added occurrences move n each = (refl, move.may_add)
+fits_here script s (Append d) added occurrences move n each = let k = declared script s d (λ home session. is_begun session.phase) (left_of _ _ move.may_happen) in (each d k.0 k.1).0 (eq-eqb d d refl)
+fits_here script s (End d) added occurrences move n each = let k = declared script s d (λ home session. is_begun session.phase) move.may_happen in (each d k.0 k.1).0 (eq-eqb d d refl)
+fits_here script s (Refuse d) added occurrences move n each = let k = declared script s d (λ home session. is_begun session.phase) (left_of _ _ move.may_happen) in (each d k.0 k.1).0 (eq-eqb d d refl)
+fits_here script s (Pad server) added occurrences move n each = (refl, move.may_add)
+fits_here script s (Publish server upto) added occurrences move n each = (refl, move.may_add)
+fits_here script s (Stop call pattern) added occurrences move n each = absurd (cc n)
 
-pub all_fit : (script : Workload) (s : State) (marks : List Occurrence) → AreMoves (script_setting script) s marks → EachFits script s marks → AreFit script s marks
+pub all_fit : (script : Workload) (s : State) (occurrences : List Occurrence) → AreMoves (script_setting script) s occurrences → EachFits script s occurrences → AreFit script s occurrences
 all_fit script s [] all each = tt
-all_fit script s (Opened o ∷ marks) all each = absurd all
-all_fit script s (Halted at risen ∷ marks) all each = all_fit script s marks all (λ c client e. each c client e)
-all_fit script s (Lifted batch ∷ marks) all each = all_fit script s marks all (λ c client e. each c client e)
-all_fit script s (Landed ∷ marks) all each = all_fit script s marks all (λ c client e. each c client e)
-all_fit script s (Happened event added ∷ marks) all each =
-    (fits_here script s event added marks all.0 all.1 each, all_fit script (after (script_setting script) s event added) marks all.2 (λ c client e. (each c client e).1))
+all_fit script s (Opened o ∷ occurrences) all each = absurd all
+all_fit script s (Halted at risen ∷ occurrences) all each = all_fit script s occurrences all (λ c client e. each c client e)
+all_fit script s (Lifted batch ∷ occurrences) all each = all_fit script s occurrences all (λ c client e. each c client e)
+all_fit script s (Landed ∷ occurrences) all each = all_fit script s occurrences all (λ c client e. each c client e)
+all_fit script s (Happened event added ∷ occurrences) all each =
+    (fits_here script s event added occurrences all.0 all.1 each, all_fit script (after (script_setting script) s event added) occurrences all.2 (λ c client e. (each c client e).1))
 
 -- ---- all are done
 

@@ -10,8 +10,8 @@ use Rattle.hy_base.specs.declared.workload.Event.TheVariants.{Begin, Append, End
 use Rattle.hy_base.specs.Lists.{nth, change_nth}
 use Rattle.hy_base.specs.Shape.{whole_groups}
 use Rattle.hy_rules.specs.Moves.{Setting, State, after, enabled, board_of, opening, is_declared, ends_whole_group, is_stop}
-use Rattle.hy_hub.specs.declared.mark.Occurrence.{Occurrence}
-use Rattle.hy_hub.specs.declared.mark.Occurrence.TheVariants.{Opened, Happened, Halted, Lifted, Landed}
+use Rattle.hy_hub.specs.declared.occurrence.Occurrence.{Occurrence}
+use Rattle.hy_hub.specs.declared.occurrence.Occurrence.TheVariants.{Opened, Happened, Halted, Lifted, Landed}
 use Rattle.hy_hub.specs.Trace.{after_all, AreMoves}
 use Rattle.hy_base.proofs.NthLemmas.{right_of}
 use Rattle.hy_hub.proofs.Turns.{unarmed}
@@ -63,13 +63,13 @@ log_after w s (Pad c) added calm = rw calm (added, refl)
 log_after w s (Publish c q) added calm = ([], append-nil s.log)
 log_after w s (Stop call pattern) added calm = ([], append-nil s.log)
 
-pub log_led : (w : Setting) (s : State) (marks : List Occurrence) → AreMoves w s marks → s.armed ≡ None → IsPrefix s.log (after_all w s marks).log
+pub log_led : (w : Setting) (s : State) (occurrences : List Occurrence) → AreMoves w s occurrences → s.armed ≡ None → IsPrefix s.log (after_all w s occurrences).log
 log_led w s [] all calm = ([], append-nil s.log)
-log_led w s (Opened o ∷ marks) all calm = absurd all
-log_led w s (Halted at risen ∷ marks) all calm = log_led w s marks all calm
-log_led w s (Lifted batch ∷ marks) all calm = log_led w s marks all calm
-log_led w s (Landed ∷ marks) all calm = log_led w s marks all calm
-log_led w s (Happened event added ∷ marks) all calm =
+log_led w s (Opened o ∷ occurrences) all calm = absurd all
+log_led w s (Halted at risen ∷ occurrences) all calm = log_led w s occurrences all calm
+log_led w s (Lifted batch ∷ occurrences) all calm = log_led w s occurrences all calm
+log_led w s (Landed ∷ occurrences) all calm = log_led w s occurrences all calm
+log_led w s (Happened event added ∷ occurrences) all calm =
     let one = log_after w s event added calm in
-    let rest = log_led w (after w s event added) marks all.2 (unarmed w s event added calm all.1) in
+    let rest = log_led w (after w s event added) occurrences all.2 (unarmed w s event added calm all.1) in
     (one.0 ++ rest.0, sym (append_assoc s.log one.0 rest.0) ∙ (ap (λ l. l ++ rest.0) one.1 ∙ rest.1))

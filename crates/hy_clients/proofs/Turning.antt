@@ -7,9 +7,9 @@ use Rattle.std.proofs.Math.Seq.{take-append_seam, take-append-add}
 use mathlib.Core.List.{IsPrefix}
 use Rattle.hy_hist.specs.Passes.{Known, made}
 use Rattle.hy_hist.proofs.Lists.{prefix_trans, prefix_length}
-use Rattle.hy_hub.specs.declared.mark.Occurrence.{Occurrence}
+use Rattle.hy_hub.specs.declared.occurrence.Occurrence.{Occurrence}
 use Rattle.hy_hub.specs.Calls.{OneTurn, OwnTurn, placed_at}
-use Rattle.hy_hub.specs.Turns.{is_mark_of}
+use Rattle.hy_hub.specs.Turns.{is_occurrence_of}
 use Rattle.hy_clients.specs.Passing.{own_turns, GoesOn, IsNextTurn}
 
 -- what a list begins with, so does the list before a later place
@@ -64,9 +64,9 @@ as_own {all} {old} {new} {does} turn = record {
   done = turn.done;
 }
 
--- none of these marks is the client's, wherever they stand
+-- none of these occurrences is the client's, wherever they stand
 abbrev pub AreOthers : ℕ → List Occurrence → Type 0
-AreOthers client marks = (place : ℕ) → filter (λ turn. is_mark_of client turn.1) (placed_at place marks) ≡ []
+AreOthers client occurrences = (place : ℕ) → filter (λ turn. is_occurrence_of client turn.1) (placed_at place occurrences) ≡ []
 
 module _ {old new : Known Occurrence} {does : List Occurrence → List Occurrence → Type 0} (turn : OwnTurn old new does) where
   pub grows : IsPrefix old.seen new.seen
@@ -75,21 +75,21 @@ module _ {old new : Known Occurrence} {does : List Occurrence → List Occurrenc
   pub before_is : take (length turn.before) new.seen ≡ turn.before
   before_is = ap (take (length turn.before)) turn.seen ∙ take-append_seam turn.before (turn.own ++ turn.after)
 
-  goes : (client : ℕ) → new.parts ≡ old.parts → (turns : List (ℕ × Occurrence)) → filter (λ t. is_mark_of client t.1) (placed_at (length turn.before) turn.own) ≡ turns → GoesOn client old new turns
+  goes : (client : ℕ) → new.parts ≡ old.parts → (turns : List (ℕ × Occurrence)) → filter (λ t. is_occurrence_of client t.1) (placed_at (length turn.before) turn.own) ≡ turns → GoesOn client old new turns
   goes client parts turns e = record {
     grown = grows;
     parts = parts;
-    own = ap (filter (λ (t : ℕ × Occurrence). is_mark_of client t.1)) turn.makes ∙ (filter-append (λ (t : ℕ × Occurrence). is_mark_of client t.1) (made old) (placed_at (length turn.before) turn.own) ∙ ap (λ l. own_turns client old ++ l) e);
+    own = ap (filter (λ (t : ℕ × Occurrence). is_occurrence_of client t.1)) turn.makes ∙ (filter-append (λ (t : ℕ × Occurrence). is_occurrence_of client t.1) (made old) (placed_at (length turn.before) turn.own) ∙ ap (λ l. own_turns client old ++ l) e);
   }
 
   -- what is its own isn't the client's
-  pub goes_quiet : {marks : List Occurrence} (client : ℕ) → new.parts ≡ old.parts → turn.own ≡ marks → AreOthers client marks → GoesOn client old new []
-  goes_quiet {marks} client parts is others = goes client parts [] (subst (AreOthers client) (sym is) others (length turn.before))
+  pub goes_quiet : {occurrences : List Occurrence} (client : ℕ) → new.parts ≡ old.parts → turn.own ≡ occurrences → AreOthers client occurrences → GoesOn client old new []
+  goes_quiet {occurrences} client parts is others = goes client parts [] (subst (AreOthers client) (sym is) others (length turn.before))
 
-  -- its own is a mark of the client
-  pub goes_own : (client : ℕ) → new.parts ≡ old.parts → (mark : Occurrence) → turn.own ≡ mark ∷ [] → is_mark_of client mark ≡ true → IsNextTurn client old new (length turn.before, mark)
-  goes_own client parts mark e mine = record {
-    goes = goes client parts ((length turn.before, mark) ∷ []) (ap (λ l. filter (λ (t : ℕ × Occurrence). is_mark_of client t.1) (placed_at (length turn.before) l)) e ∙ ap (λ b. if b then (length turn.before, mark) ∷ [] else []) mine);
+  -- its own is an occurrence of the client
+  pub goes_own : (client : ℕ) → new.parts ≡ old.parts → (occurrence : Occurrence) → turn.own ≡ occurrence ∷ [] → is_occurrence_of client occurrence ≡ true → IsNextTurn client old new (length turn.before, occurrence)
+  goes_own client parts occurrence e mine = record {
+    goes = goes client parts ((length turn.before, occurrence) ∷ []) (ap (λ l. filter (λ (t : ℕ × Occurrence). is_occurrence_of client t.1) (placed_at (length turn.before) l)) e ∙ ap (λ b. if b then (length turn.before, occurrence) ∷ [] else []) mine);
     behind = prefix_length old.seen turn.before turn.grown;
     within = omega (arith, ap length turn.seen, length-append turn.before (turn.own ++ turn.after), length-append turn.own turn.after, ap length e);
   }

@@ -6,37 +6,37 @@ use Rattle.hy_base.specs.declared.record.EntryKind.{EntryKind}
 use Rattle.hy_base.specs.Script.{Workload}
 use Rattle.hy_rolling.specs.Rolling.{Roll, rolled_upto, new_roll, Stands}
 use Rattle.hy_rules.specs.Runs.{setting_of as script_setting}
-use Rattle.hy_hub.specs.declared.mark.Occurrence.{Occurrence}
-use Rattle.hy_hub.specs.declared.mark.Occurrence.TheVariants.{Opened, Happened, Halted, Lifted, Landed}
+use Rattle.hy_hub.specs.declared.occurrence.Occurrence.{Occurrence}
+use Rattle.hy_hub.specs.declared.occurrence.Occurrence.TheVariants.{Opened, Happened, Halted, Lifted, Landed}
 use Rattle.hy_hub.specs.Trace.{setting_in}
 use Rattle.hy_hub.specs.Hub.{IsHubHistory}
 use Rattle.hy_hub.specs.Calls.{IsIdle}
-use Rattle.hy_hub.specs.Turns.{is_mark_of}
+use Rattle.hy_hub.specs.Turns.{is_occurrence_of}
 
 -- the log and the roller that the hub was made on, and the device's count of faults then
 abbrev pub opened_log : List Occurrence → List EntryKind
 opened_log [] = []
-opened_log (Opened o ∷ marks) = o.found
-opened_log (Happened event added ∷ marks) = []
-opened_log (Halted at risen ∷ marks) = []
-opened_log (Lifted batch ∷ marks) = []
-opened_log (Landed ∷ marks) = []
+opened_log (Opened o ∷ occurrences) = o.found
+opened_log (Happened event added ∷ occurrences) = []
+opened_log (Halted at risen ∷ occurrences) = []
+opened_log (Lifted batch ∷ occurrences) = []
+opened_log (Landed ∷ occurrences) = []
 
 abbrev pub opened_faults : List Occurrence → ℕ
 opened_faults [] = 0
-opened_faults (Opened o ∷ marks) = o.faults
-opened_faults (Happened event added ∷ marks) = 0
-opened_faults (Halted at risen ∷ marks) = 0
-opened_faults (Lifted batch ∷ marks) = 0
-opened_faults (Landed ∷ marks) = 0
+opened_faults (Opened o ∷ occurrences) = o.faults
+opened_faults (Happened event added ∷ occurrences) = 0
+opened_faults (Halted at risen ∷ occurrences) = 0
+opened_faults (Lifted batch ∷ occurrences) = 0
+opened_faults (Landed ∷ occurrences) = 0
 
 abbrev pub opened_start : List Occurrence → Roll
 opened_start [] = new_roll (setting_in []).shape
-opened_start (Opened o ∷ marks) = o.start
-opened_start (Happened event added ∷ marks) = new_roll (setting_in []).shape
-opened_start (Halted at risen ∷ marks) = new_roll (setting_in []).shape
-opened_start (Lifted batch ∷ marks) = new_roll (setting_in []).shape
-opened_start (Landed ∷ marks) = new_roll (setting_in []).shape
+opened_start (Opened o ∷ occurrences) = o.start
+opened_start (Happened event added ∷ occurrences) = new_roll (setting_in []).shape
+opened_start (Halted at risen ∷ occurrences) = new_roll (setting_in []).shape
+opened_start (Lifted batch ∷ occurrences) = new_roll (setting_in []).shape
+opened_start (Landed ∷ occurrences) = new_roll (setting_in []).shape
 
 -- the roller of the opening stands for the entries that it has rolled
 abbrev pub OpensStanding : List Occurrence → Type 0
@@ -54,7 +54,7 @@ pub record IsRunPass (lock : Lock) (script : Workload) (pass : Known Occurrence)
 
 -- the turns of a client that the pass took, with their places
 abbrev pub own_turns : ℕ → Known Occurrence → List (ℕ × Occurrence)
-own_turns client pass = filter (λ turn. is_mark_of client turn.1) (made pass)
+own_turns client pass = filter (λ turn. is_occurrence_of client turn.1) (made pass)
 
 -- A pass went on, and took these turns of a client besides.
 pub record GoesOn (client : ℕ) (old new : Known Occurrence) (turns : List (ℕ × Occurrence)) : Type 0 where

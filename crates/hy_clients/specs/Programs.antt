@@ -9,8 +9,8 @@ use Rattle.hy_base.specs.Script.{Workload}
 use Rattle.hy_rules.specs.Exec.{Effects, intention}
 use Rattle.hy_rules.specs.Moves.{home_server}
 use Rattle.hy_rules.specs.Runs.{Ending, ByReading, ByEntryAt, ByFullLog, setting_of, execution}
-use Rattle.hy_hub.specs.declared.mark.Occurrence.{Occurrence}
-use Rattle.hy_hub.specs.declared.mark.Occurrence.TheVariants.{Opened, Happened, Halted, Lifted, Landed}
+use Rattle.hy_hub.specs.declared.occurrence.Occurrence.{Occurrence}
+use Rattle.hy_hub.specs.declared.occurrence.Occurrence.TheVariants.{Opened, Happened, Halted, Lifted, Landed}
 use Rattle.hy_hub.specs.Trace.{state_after}
 use Rattle.hy_hub.specs.Calls.{board_at}
 use Rattle.hy_clients.specs.Passing.{OpensStanding}
@@ -38,7 +38,7 @@ has_left_entry effects = option_map_or (λ e. nat_lt 0 (length e.writes)) effect
 abbrev pub own_entry_of : Workload → ℕ → ℕ → Option Effects → List EntryKind
 own_entry_of script client snap effects = option_to_list (option_map (λ e. Txn (intention (home_server (setting_of script) client) client snap e)) effects)
 
--- The mark ends a client's program that left this on its snapshot: a program that wrote is appended or refused, and one that only read ends.
+-- The occurrence ends a client's program that left this on its snapshot: a program that wrote is appended or refused, and one that only read ends.
 abbrev pub EndsProgram : Workload → ℕ → ℕ → Option Effects → Occurrence → Type 0
 EndsProgram script client snap effects (Opened o) = ⊥
 EndsProgram script client snap effects (Halted at risen) = ⊥
@@ -52,7 +52,7 @@ EndsProgram script client snap effects (Happened (Pad server) added) = ⊥
 EndsProgram script client snap effects (Happened (Publish server upto) added) = ⊥
 EndsProgram script client snap effects (Happened (Stop call pattern) added) = ⊥
 
--- how a program is told to have ended, by the mark that ended it where the log had this length
+-- how a program is told to have ended, by the occurrence that ended it where the log had this length
 abbrev pub EndsAs : ℕ → Occurrence → end.End → Type 0
 EndsAs len (Opened o) told = ⊥
 EndsAs len (Halted at risen) told = ⊥

@@ -11,7 +11,7 @@ use Rattle.hy_hist.specs.Passes.{Known}
 use Rattle.hy_rules.specs.Runs.{Ended, setting_of as script_setting, opening_of, run, is_done, ended_in, outcome_of, replies_to}
 use Rattle.hy_rules.specs.Validation.{verdicts}
 use Rattle.hy_rules.specs.Moves.{is_stop}
-use Rattle.hy_hub.specs.declared.mark.Occurrence.{Occurrence}
+use Rattle.hy_hub.specs.declared.occurrence.Occurrence.{Occurrence}
 use Rattle.hy_hub.specs.Trace.{setting_in, state_after}
 use Rattle.hy_hub.specs.Hub.{IsHubHistory}
 use Rattle.hy_hub.specs.Calls.{events_in_list}

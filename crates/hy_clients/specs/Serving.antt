@@ -9,9 +9,9 @@ use Rattle.hy_base.specs.Script.{Workload, IsScript}
 use Rattle.hy_hist.specs.Passes.{Known}
 use Rattle.hy_rules.specs.History.{pairs_of}
 use Rattle.hy_rules.specs.Validation.{live}
-use Rattle.hy_hub.specs.declared.mark.Occurrence.{Occurrence}
-use Rattle.hy_hub.specs.declared.mark.Occurrence.TheVariants.{Happened}
-use Rattle.hy_hub.specs.declared.mark.Begun.{Begun}
+use Rattle.hy_hub.specs.declared.occurrence.Occurrence.{Occurrence}
+use Rattle.hy_hub.specs.declared.occurrence.Occurrence.TheVariants.{Happened}
+use Rattle.hy_hub.specs.declared.occurrence.Begun.{Begun}
 use Rattle.hy_hub.specs.Trace.{state_after}
 use Rattle.hy_exec.specs.declared.txn.Finished.{Finished}
 use Rattle.hy_exec.specs.declared.txn.Finished.TheVariants.{ReadOnly, Entry}
@@ -43,9 +43,9 @@ pub record Begins (script : Workload) (client : ℕ) (old new : Known Occurrence
   pub snap : begun.snap ≡ board_at client (before new.seen turn)
   pub rows : AreLive script new.seen begun.snap begun.roller.rolled.tree
 
--- the mark by which an entry was appended, or refused by a full log
+-- the occurrence by which an entry was appended, or refused by a full log
 abbrev pub TakesEntry : ℕ → EntryKind → Occurrence → Type 0
-TakesEntry client entry mark = (mark ≡ Happened (Append client) (entry ∷ [])) ⊎ (mark ≡ Happened (Refuse client) [])
+TakesEntry client entry occurrence = (occurrence ≡ Happened (Append client) (entry ∷ [])) ⊎ (occurrence ≡ Happened (Refuse client) [])
 
 -- an entry was taken, or refused
 pub record Takes (client : ℕ) (entry : EntryKind) (old new : Known Occurrence) (told : end.End) : Type 0 where

@@ -77,13 +77,13 @@ fn finished<D: Disk>(
     events: Events,
     told: Vec<Vec<Answered>>,
 ) -> Result<Run<D>, Broken<D>>
-    requires closed { IsClosed D.tells D.content (D.faults_of closed.log.disk) closed.marks.items closed.log closed.entries.items closed.rollers.items }
-    requires setting { setting_in closed.marks.items ≡ script_setting script.now }
-    requires within { OpensInLog closed.marks.items }
-    requires ends { list_all (λ board. board == length (state_after closed.marks.items).log) (state_after closed.marks.items).boards ≡ true }
-    requires served { AllServed script.now closed.marks.items 1 script.now.clients (map (λ t. t.items) told.items) }
-    requires events { events ≡ events_in_list closed.marks.items }
-    ensures run { IfOk result (λ run. (run.log ≡ closed.log) × IsFinished D.tells script.now (opened_log closed.marks.items) (opened_start closed.marks.items) run.events run.replies run.boards run.log) }
+    requires closed { IsClosed D.tells D.content (D.faults_of closed.log.disk) closed.occurrences.items closed.log closed.entries.items closed.rollers.items }
+    requires setting { setting_in closed.occurrences.items ≡ script_setting script.now }
+    requires within { OpensInLog closed.occurrences.items }
+    requires ends { list_all (λ board. board == length (state_after closed.occurrences.items).log) (state_after closed.occurrences.items).boards ≡ true }
+    requires served { AllServed script.now closed.occurrences.items 1 script.now.clients (map (λ t. t.items) told.items) }
+    requires events { events ≡ events_in_list closed.occurrences.items }
+    ensures run { IfOk result (λ run. (run.log ≡ closed.log) × IsFinished D.tells script.now (opened_log closed.occurrences.items) (opened_start closed.occurrences.items) run.events run.replies run.boards run.log) }
     ensures log { IfErr result (λ broken. broken.log ≡ closed.log) }
     ensures cause { IfErr result (λ broken. broken.cause ≡ Cause.Device → closed.log.stopped ≢ None) }
     ensures memory { IfErr result (λ broken. broken.cause ≡ Cause.Memory → closed.log.stopped ≡ None) }
@@ -95,7 +95,7 @@ fn finished<D: Disk>(
         log,
         entries: _,
         rollers,
-        marks: _,
+        occurrences: _,
     } = closed;
     if log.stopped().is_some() {
         return Err(break_off(log));

@@ -366,7 +366,7 @@ fn a_program_is_begun_and_appended(rt: HostRuntime) -> Result<(), Fail> {
     assert!(rt; bench.begin(&rt, 1).err() == Some(behind));
     assert!(rt; bench.pad(&rt, 1) == Err(PadRefusal::Even));
     let closed = bench.close();
-    assert!(rt; closed.entries.len() == 1 && closed.marks.len() == 5);
+    assert!(rt; closed.entries.len() == 1 && closed.occurrences.len() == 5);
     assert!(rt; device_of(closed).bytes().len() == 513);
     Ok(())
 }

@@ -17,7 +17,7 @@ pub returns-in-Ok-clause-run : goal.returns-in-Ok-clause-run
 returns-in-Ok-clause-run g c =
     let r = c.requires in
     let script = c.args.script.now in
-    let list = c.args.closed.marks.items in
+    let list = c.args.closed.occurrences.items in
     let told = map (λ t. t.items) c.args.told.items in
     let running : c.args.closed.log.stopped ≡ None = runs_on c.args.closed.log.stopped c.is_some.result (c.is_some.ensures ∙ ap is_some c.stopped.ensures) c.if-is_some.false in
     let run = finishes r.closed script r.setting r.ends c.index-first.result.now told c.in-Ok.replies c.shape.ensures.script c.index-first.ensures r.within c.served_lists_are_runs.ensures c.replies_are_told.ensures r.served running c.in-Ok.ensures in

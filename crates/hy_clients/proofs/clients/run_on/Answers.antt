@@ -26,14 +26,14 @@ finished-requires-clause-setting g c =
     let start = c.args.pass.seen in
     let p = prefix_trans start c.serve_to_end-told.new.pass.seen c.trace-events.new.pass.seen c.serve_to_end-told.ensures.grown (grows (as_own c.trace-events.ensures.turn)) in
     let q = subst (IsPrefix start) (sym c.close-closed.ensures.seen) p in
-    (opened_same start c.close-closed.result.marks.items c.requires.pass.told q).setting ∙ c.requires.pass.setting_is
+    (opened_same start c.close-closed.result.occurrences.items c.requires.pass.told q).setting ∙ c.requires.pass.setting_is
 
 pub finished-requires-clause-within : goal.finished-requires-clause-within
 finished-requires-clause-within g c =
     let start = c.args.pass.seen in
     let p = prefix_trans start c.serve_to_end-told.new.pass.seen c.trace-events.new.pass.seen c.serve_to_end-told.ensures.grown (grows (as_own c.trace-events.ensures.turn)) in
     let q = subst (IsPrefix start) (sym c.close-closed.ensures.seen) p in
-    in_log_on start c.close-closed.result.marks.items c.requires.pass.told q c.requires.within
+    in_log_on start c.close-closed.result.occurrences.items c.requires.pass.told q c.requires.within
 
 pub finished-requires-clause-ends : goal.finished-requires-clause-ends
 finished-requires-clause-ends g c =
@@ -48,7 +48,7 @@ finished-requires-clause-served g c =
     let script = c.args.script.now in
     let first = c.serve_to_end-told.new.pass.seen in
     let third = c.trace-events.new.pass.seen in
-    let list = c.close-closed.result.marks.items in
+    let list = c.close-closed.result.occurrences.items in
     let p : IsPrefix first third = grows (as_own c.trace-events.ensures.turn) in
     let q : IsPrefix first list = subst (IsPrefix first) (sym c.close-closed.ensures.seen) p in
     let served = subst (λ (r : _). IfOk r (λ (told : _). AllServed script first 1 script.clients (map (λ (t : _). t.items) told.items))) c.in-Ok-Ok.is-0 c.serve_to_end-told.ensures.served in

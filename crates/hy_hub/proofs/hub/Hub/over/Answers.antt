@@ -10,13 +10,13 @@ pub over-contents-requires-clause-shape : goal.over-contents-requires-clause-sha
 over-contents-requires-clause-shape g c = c.shape-shape.ensures.shape
 
 pub new-requires-clause-home : goal.new-requires-clause-home
-new-requires-clause-home g c = ap is_out (c.over-contents.ensures ∙ c.requires.opens.4.marks)
+new-requires-clause-home g c = ap is_out (c.over-contents.ensures ∙ c.requires.opens.4.occurrences)
 
 pub new-requires-clause-parts : goal.new-requires-clause-parts
 new-requires-clause-parts g c = omega arith
 
 pub new-requires-clause-short : goal.new-requires-clause-short
-new-requires-clause-short g c = omega (arith, ap length (c.over-contents.ensures ∙ c.requires.opens.4.marks))
+new-requires-clause-short g c = omega (arith, ap length (c.over-contents.ensures ∙ c.requires.opens.4.occurrences))
 
 pub returns-in-Ok-clause-hub : goal.returns-in-Ok-clause-hub
 returns-in-Ok-clause-hub g c = (c.in-Ok.ensures.lock.0, (c.in-Ok.ensures.lock.1, c.in-Ok.ensures.pass.1, c.in-Ok.ensures.pass.2), c.in-Ok.ensures.pass.0)
