@@ -16,18 +16,18 @@ use Rattle.hy_base.specs.declared.workload.Event.TheVariants.{Begin, Append, End
 use Rattle.hy_rolling.specs.Rolling.{Roll, Stands}
 use Rattle.hy_rules.specs.Runs.{verdict_at, outcome_of}
 use Rattle.hy_rules.specs.Validation.{verdicts, verdicts_after}
-use Rattle.hy_pipe.specs.Telling.{kept_verdict}
-use Rattle.hy_pipe.proofs.Standing.{verdict_past}
+use Rattle.hy_roller.specs.Telling.{kept_verdict}
+use Rattle.hy_roller.proofs.Standing.{verdict_past}
 use Rattle.hy_hub.specs.declared.occurrence.Occurrence.{Occurrence}
 use Rattle.hy_hub.specs.declared.occurrence.Occurrence.TheVariants.{Opened, Happened, Halted, Lifted, Landed}
 use Rattle.hy_hub.specs.Trace.{state_after}
 use Rattle.hy_hub.specs.Hub.{IsHubHistory}
 use Rattle.hy_hub.proofs.Passing.{log_more}
 use Rattle.hy_clients.specs.declared.answered.Answered.{Answered}
-use Rattle.hy_clients.specs.declared.answered.End as end
-use Rattle.hy_clients.specs.declared.answered.End.TheVariants.{Reading, EntryAt, FullLog}
+use Rattle.hy_roller.specs.declared.ended.ProgramEnd.{ProgramEnd}
+use Rattle.hy_roller.specs.declared.ended.ProgramEnd.TheVariants.{Reading, EntryAt, FullLog}
 use Rattle.hy_clients.specs.Passing.{opened_log}
-use Rattle.hy_clients.specs.Programs.{AreServed, EndsAs, ending_of_end}
+use Rattle.hy_clients.specs.Programs.{AreServed, EndsAs, ending_of}
 use Rattle.hy_clients.specs.Replying.{outcome_by, reply_on}
 use Rattle.hy_clients.specs.Served.{AllServed, reply_by}
 use Rattle.hy_clients.proofs.Turning.{take_same}
@@ -35,7 +35,7 @@ use Rattle.hy_clients.proofs.Turning.{take_same}
 -- ---- the verdicts of a whole log
 
 -- the end of a program that was appended past a position
-abbrev pub IsPast : ℕ → end.End → Type 0
+abbrev pub IsPast : ℕ → ProgramEnd → Type 0
 IsPast from Reading = ⊤
 IsPast from (EntryAt pos) = from < pos
 IsPast from FullLog = ⊤
@@ -57,7 +57,7 @@ module _ (log : List EntryKind) (r : Roll) (good : IsGoodShape r.shape) (st : St
       let groups : r.rolled.groups ≡ length log / r.shape.group = sym (ap (λ (k : ℕ). k / r.shape.group) st.whole ∙ mul-div_cancel_left r.rolled.groups good.group.at_least) in
       ap (λ (l : List (Option Verdict)). verdict_at l (pos - r.from)) (st.verdicts_are ∙ ap (λ (k : ℕ). drop r.from (verdicts_after r.shape log k)) groups) ∙ verdict_past vs r.from pos past
 
-  outcome_same : (snap : ℕ) (e : end.End) → IsPast r.from e → outcome_by r snap e ≡ outcome_of vs (record { client = 0; number = 0; snap = snap; ending = ending_of_end e })
+  outcome_same : (snap : ℕ) (e : ProgramEnd) → IsPast r.from e → outcome_by r snap e ≡ outcome_of vs (record { client = 0; number = 0; snap = snap; ending = ending_of e })
   outcome_same snap Reading past = refl
   outcome_same snap (EntryAt pos) past = ap (option_map (At pos)) (tells pos past)
   outcome_same snap FullLog past = refl
@@ -76,7 +76,7 @@ module _ (log : List EntryKind) (r : Roll) (good : IsGoodShape r.shape) (st : St
 
 -- ---- programs are appended past the log that was found
 
-past_end : (from len : ℕ) (occurrence : Occurrence) (e : end.End) → from ≤ len → EndsAs len occurrence e → IsPast from e
+past_end : (from len : ℕ) (occurrence : Occurrence) (e : ProgramEnd) → from ≤ len → EndsAs len occurrence e → IsPast from e
 past_end from len (Opened o) e low is = absurd is
 past_end from len (Halted at risen) e low is = absurd is
 past_end from len (Lifted batch) e low is = absurd is

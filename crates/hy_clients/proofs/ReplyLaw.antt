@@ -19,9 +19,9 @@ use Rattle.hy_hub.specs.declared.occurrence.Occurrence.TheVariants.{Opened, Happ
 use Rattle.hy_hub.specs.Trace.{AreMoves, state_after}
 use Rattle.hy_hub.specs.Calls.{events_in_list}
 use Rattle.hy_clients.specs.declared.answered.Answered.{Answered}
-use Rattle.hy_clients.specs.declared.answered.End as end
-use Rattle.hy_clients.specs.declared.answered.End.TheVariants.{Reading, EntryAt, FullLog}
-use Rattle.hy_clients.specs.Programs.{ending_of_end, answers_given}
+use Rattle.hy_roller.specs.declared.ended.ProgramEnd.{ProgramEnd}
+use Rattle.hy_roller.specs.declared.ended.ProgramEnd.TheVariants.{Reading, EntryAt, FullLog}
+use Rattle.hy_clients.specs.Programs.{ending_of, answers_given}
 use Rattle.hy_clients.specs.Served.{AllServed, RepliesAreTold, ended_program, reply_by}
 use Rattle.hy_clients.proofs.Answering.{AnswersByLog}
 use Rattle.hy_clients.proofs.Endings.{endings, is_end_of}
@@ -54,12 +54,12 @@ module _ {X : Type 0} (p q : X → Bool) where
 
 -- ---- the reply to a program
 
-outcome_same : (vs : List (Option Verdict)) (c number snap : ℕ) (e : end.End) → outcome_of vs (record { client = c; number = number; snap = snap; ending = ending_of_end e }) ≡ outcome_of vs (record { client = 0; number = 0; snap = snap; ending = ending_of_end e })
+outcome_same : (vs : List (Option Verdict)) (c number snap : ℕ) (e : ProgramEnd) → outcome_of vs (record { client = c; number = number; snap = snap; ending = ending_of e }) ≡ outcome_of vs (record { client = 0; number = 0; snap = snap; ending = ending_of e })
 outcome_same vs c number snap Reading = refl
 outcome_same vs c number snap (EntryAt pos) = refl
 outcome_same vs c number snap FullLog = refl
 
-answers_same : (script : Workload) (log : List EntryKind) (c number snap : ℕ) (e : end.End) → answers_to script log (record { client = c; number = number; snap = snap; ending = ending_of_end e }) ≡ answers_given script log c number snap
+answers_same : (script : Workload) (log : List EntryKind) (c number snap : ℕ) (e : ProgramEnd) → answers_to script log (record { client = c; number = number; snap = snap; ending = ending_of e }) ≡ answers_given script log c number snap
 answers_same script log c number snap Reading = refl
 answers_same script log c number snap (EntryAt pos) = refl
 answers_same script log c number snap FullLog = refl

@@ -8,20 +8,15 @@ use Rattle.hy_base.specs.declared.workload.Event.TheVariants.{Begin, Append, End
 use Rattle.hy_base.specs.Script.{Workload}
 use Rattle.hy_rules.specs.Exec.{Effects, intention}
 use Rattle.hy_rules.specs.Moves.{home_server}
-use Rattle.hy_rules.specs.Runs.{Ending, ByReading, ByEntryAt, ByFullLog, setting_of, execution}
+use Rattle.hy_rules.specs.Runs.{setting_of, execution}
 use Rattle.hy_hub.specs.declared.occurrence.Occurrence.{Occurrence}
 use Rattle.hy_hub.specs.declared.occurrence.Occurrence.TheVariants.{Opened, Happened, Halted, Lifted, Landed}
 use Rattle.hy_hub.specs.Trace.{state_after}
 use Rattle.hy_hub.specs.Calls.{board_at}
 use Rattle.hy_clients.specs.Passing.{OpensStanding}
 use Rattle.hy_clients.specs.declared.answered.Answered.{Answered}
-use Rattle.hy_clients.specs.declared.answered.End as end
-use Rattle.hy_clients.specs.declared.answered.End.TheVariants.{Reading, EntryAt, FullLog}
-
-abbrev pub ending_of_end : end.End → Ending
-ending_of_end Reading = ByReading
-ending_of_end (EntryAt pos) = ByEntryAt pos
-ending_of_end FullLog = ByFullLog
+use Rattle.hy_roller.specs.declared.ended.ProgramEnd.{ProgramEnd}
+use Rattle.hy_roller.specs.declared.ended.ProgramEnd.TheVariants.{Reading, EntryAt, FullLog}
 
 -- what the client's program of this number leaves on a snapshot of the log, and what it is answered
 abbrev pub effects_on : Workload → List EntryKind → ℕ → ℕ → ℕ → Option Effects
@@ -53,7 +48,7 @@ EndsProgram script client snap effects (Happened (Publish server upto) added) = 
 EndsProgram script client snap effects (Happened (Stop call pattern) added) = ⊥
 
 -- how a program is told to have ended, by the occurrence that ended it where the log had this length
-abbrev pub EndsAs : ℕ → Occurrence → end.End → Type 0
+abbrev pub EndsAs : ℕ → Occurrence → ProgramEnd → Type 0
 EndsAs len (Opened o) told = ⊥
 EndsAs len (Halted at risen) told = ⊥
 EndsAs len (Lifted batch) told = ⊥
