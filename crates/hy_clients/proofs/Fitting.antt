@@ -20,7 +20,8 @@ use Rattle.hy_hub.specs.declared.occurrence.Occurrence.TheVariants.{Happened}
 use Rattle.hy_hub.specs.Turns.{is_event_of}
 use Rattle.hy_base.proofs.NthLemmas.{left_of}
 use Rattle.hy_clients.specs.declared.answered.Answered.{Answered}
-use Rattle.hy_clients.specs.Programs.{ending_of, effects_on, has_left_entry, own_entry_of}
+use Rattle.hy_roller.specs.Telling.{ending_of}
+use Rattle.hy_clients.specs.Programs.{effects_on, has_left_entry, own_entry_of}
 use Rattle.hy_clients.proofs.Sessions.{nth_changed, is_running, same_number}
 use Rattle.hy_clients.proofs.Steady.{IsSteadyState}
 use Rattle.hy_clients.proofs.Progress.{StateIsAt, ProgramsGo, Works, IsTurn, closing, close_turn, begin_turn}

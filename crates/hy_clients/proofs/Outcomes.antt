@@ -16,7 +16,7 @@ use Rattle.hy_base.specs.declared.workload.Event.TheVariants.{Begin, Append, End
 use Rattle.hy_rolling.specs.Rolling.{Roll, Stands}
 use Rattle.hy_rules.specs.Runs.{verdict_at, outcome_of}
 use Rattle.hy_rules.specs.Validation.{verdicts, verdicts_after}
-use Rattle.hy_roller.specs.Telling.{kept_verdict}
+use Rattle.hy_roller.specs.Telling.{kept_verdict, ending_of, outcome_by}
 use Rattle.hy_roller.proofs.Standing.{verdict_past}
 use Rattle.hy_hub.specs.declared.occurrence.Occurrence.{Occurrence}
 use Rattle.hy_hub.specs.declared.occurrence.Occurrence.TheVariants.{Opened, Happened, Halted, Lifted, Landed}
@@ -27,8 +27,8 @@ use Rattle.hy_clients.specs.declared.answered.Answered.{Answered}
 use Rattle.hy_roller.specs.declared.ended.ProgramEnd.{ProgramEnd}
 use Rattle.hy_roller.specs.declared.ended.ProgramEnd.TheVariants.{Reading, EntryAt, FullLog}
 use Rattle.hy_clients.specs.Passing.{opened_log}
-use Rattle.hy_clients.specs.Programs.{AreServed, EndsAs, ending_of}
-use Rattle.hy_clients.specs.Replying.{outcome_by, reply_on}
+use Rattle.hy_clients.specs.Programs.{AreServed, EndsAs}
+use Rattle.hy_clients.specs.Replying.{reply_on}
 use Rattle.hy_clients.specs.Served.{AllServed, reply_by}
 use Rattle.hy_clients.proofs.Turning.{take_same}
 

@@ -21,7 +21,8 @@ use Rattle.hy_hub.specs.Calls.{events_in_list}
 use Rattle.hy_clients.specs.declared.answered.Answered.{Answered}
 use Rattle.hy_roller.specs.declared.ended.ProgramEnd.{ProgramEnd}
 use Rattle.hy_roller.specs.declared.ended.ProgramEnd.TheVariants.{Reading, EntryAt, FullLog}
-use Rattle.hy_clients.specs.Programs.{ending_of, answers_given}
+use Rattle.hy_roller.specs.Telling.{ending_of}
+use Rattle.hy_clients.specs.Programs.{answers_given}
 use Rattle.hy_clients.specs.Served.{AllServed, RepliesAreTold, ended_program, reply_by}
 use Rattle.hy_clients.proofs.Answering.{AnswersByLog}
 use Rattle.hy_clients.proofs.Endings.{endings, is_end_of}

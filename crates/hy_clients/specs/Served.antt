@@ -18,7 +18,8 @@ use Rattle.hy_hub.specs.Calls.{events_in_list}
 use Rattle.hy_hub.specs.Laws.{EventsAreTasks}
 use Rattle.hy_clients.specs.declared.answered.Answered.{Answered}
 use Rattle.hy_clients.specs.Finished.{LeadTo}
-use Rattle.hy_clients.specs.Programs.{AreServed, ending_of}
+use Rattle.hy_roller.specs.Telling.{ending_of}
+use Rattle.hy_clients.specs.Programs.{AreServed}
 use Rattle.hy_clients.specs.Passing.{OpensStanding, own_turns}
 
 -- A pass served the client with this number: all its programs, one after another. The list goes on from what the pass had seen.

@@ -42,7 +42,14 @@ fn publish_look<D: Disk, R: Threads + Wait + Sync, G: Gate + Sync>(
     if entries.is_empty() {
         return Ok(());
     }
-    let rolled = roll(&look.roller, rt, service.alloc, entries, service.threads, service.gate)?;
+    let rolled = roll(
+        &look.roller,
+        rt,
+        service.alloc,
+        entries,
+        service.threads,
+        service.gate,
+    )?;
     published(service.hub.publish(rt, pass, server, rolled))
 }
 

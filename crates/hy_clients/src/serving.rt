@@ -178,7 +178,14 @@ fn roll_look<D: Disk, R: Threads + Sync, G: Gate + Sync>(
         return Ok(None);
     }
     let entries = look.entries.as_slice();
-    let rolled = roll(&look.roller, rt, service.alloc, entries, service.threads, service.gate)?;
+    let rolled = roll(
+        &look.roller,
+        rt,
+        service.alloc,
+        entries,
+        service.threads,
+        service.gate,
+    )?;
     Ok(Some(rolled))
 }
 

@@ -86,7 +86,14 @@ fn restarted<R: Threads + Sync, G: Gate + Sync>(
     let from = roller.at();
     let entries = shares_with(alloc, past(&core.log, from), entry, stop)?;
     let upto = whole(shape, from + entries.len() as Pos);
-    let rolled = roll(roller, rt, alloc, first(&entries, upto - from), threads, gate)?;
+    let rolled = roll(
+        roller,
+        rt,
+        alloc,
+        first(&entries, upto - from),
+        threads,
+        gate,
+    )?;
     rolled.share_times(alloc, script.servers())
 }
 

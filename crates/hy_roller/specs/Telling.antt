@@ -3,13 +3,13 @@ use Rattle.std.specs.Prelude.{ℕ, ◌-◌, ◌*◌, Bool, List, ◌++◌, lengt
 use Rattle.hy_base.specs.declared.layout.Shape.{Shape}
 use Rattle.hy_base.specs.declared.record.Verdict.{Verdict}
 use Rattle.hy_base.specs.declared.report.Outcome.{Outcome}
-use Rattle.hy_base.specs.declared.report.Outcome.TheVariants.{Read, At, Full, Lost}
+use Rattle.hy_base.specs.declared.report.Outcome.TheVariants.{Read, At, Full}
 use Rattle.hy_base.specs.Shape.{base_groups}
 use Rattle.hy_base.specs.Verdicts.{is_commit}
 use Rattle.hy_rolling.specs.Rolling.{Rolled, Roll, rolled_upto, commits_on}
-use Rattle.hy_rules.specs.Runs.{verdict_at, Ending, ByReading, ByEntryAt, ByFullLog, ByStop}
+use Rattle.hy_rules.specs.Runs.{verdict_at, Ending, ByReading, ByEntryAt, ByFullLog}
 use Rattle.hy_roller.specs.declared.ended.ProgramEnd.{ProgramEnd}
-use Rattle.hy_roller.specs.declared.ended.ProgramEnd.TheVariants.{Reading, EntryAt, FullLog, Stopped}
+use Rattle.hy_roller.specs.declared.ended.ProgramEnd.TheVariants.{Reading, EntryAt, FullLog}
 use Rattle.hy_roller.specs.declared.roller.Told.{Told}
 use Rattle.hy_roller.specs.declared.roller.Told.TheVariants.{Known, NotYet, Past}
 
@@ -28,19 +28,17 @@ told r pos =
 abbrev pub flags_past : Shape → ℕ → ℕ → List Bool → List (Option Verdict) → List Bool
 flags_past s groups from flags vs = drop (s.group * base_groups s groups - (from - length flags)) (flags ++ map is_commit vs)
 
--- the end of a program, as runs name it
+-- the end of a program that no stop ended, as runs name it
 abbrev pub ending_of : ProgramEnd → Ending
 ending_of Reading = ByReading
 ending_of (EntryAt pos) = ByEntryAt pos
 ending_of FullLog = ByFullLog
-ending_of Stopped = ByStop
 
 -- what became of a program with a snapshot that ended so, by a roller
 abbrev pub outcome_by : Roll → ℕ → ProgramEnd → Option Outcome
 outcome_by r snap Reading = Some (Read snap)
 outcome_by r snap (EntryAt pos) = option_map (At pos) (kept_verdict r pos)
 outcome_by r snap FullLog = Some Full
-outcome_by r snap Stopped = Some Lost
 
 -- the same groups and rows, with verdicts from before
 abbrev pub after_verdicts : List (Option Verdict) → Rolled → Rolled

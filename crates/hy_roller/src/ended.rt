@@ -1,7 +1,7 @@
 //! How a program ended.
 use hy_base::Pos;
 
-/// How a program ended.
+/// How a program ended, if no stop ended it.
 #[derive(Clone, Copy)]
 pub enum ProgramEnd {
     /// It only read.
@@ -10,6 +10,4 @@ pub enum ProgramEnd {
     EntryAt { pos: Pos },
     /// The log was full.
     FullLog,
-    /// A stop ended it.
-    Stopped,
 }

@@ -238,7 +238,6 @@ impl Roller {
                 Some(Outcome::At { pos, verdict })
             }
             ProgramEnd::FullLog => Some(Outcome::Full),
-            ProgramEnd::Stopped => Some(Outcome::Lost),
         }
     }
 
