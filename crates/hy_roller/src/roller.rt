@@ -10,10 +10,9 @@ ghost use Rattle.hy_roller.specs.Telling.{told, kept_verdict, outcome_by, rolled
 ghost use Rattle.hy_roller.specs.RollerLaws.{IsRoller};
 
 use crate::ended::ProgramEnd;
-use crate::pairs::both;
 use crate::resuming::committed_on;
 use crate::verdicts::Blocks;
-use hy_base::{Entry, Items, Outcome, Pos, Shape, Shared, Verdict, Verdicts};
+use hy_base::{Entry, Items, Outcome, Pos, Shape, Shared, Verdict, Verdicts, both};
 use hy_tree::Tree;
 use std::alloc::{AllocError, Global};
 use std::marker::Model;
