@@ -14,7 +14,7 @@ use Rattle.hy_base.specs.Lists.{nth}
 use Rattle.hy_base.specs.Script.{Workload}
 use Rattle.hy_rules.specs.Exec.{Effects, intention}
 use Rattle.hy_rules.specs.Moves.{State, Moves, after, home_server, is_begun, client_passes, surviving, appended, at_next_program}
-use Rattle.hy_rules.specs.Runs.{Ended, Ending, ByReading, ByEntryAt, ByFullLog, setting_of as script_setting, execution, snap_of, pending, leaves_write, begun_snap, own_entry, added as entries, ended, ended_by_append}
+use Rattle.hy_rules.specs.Runs.{Ended, Ending, ByReading, ByEntryAt, ByFull, setting_of as script_setting, execution, snap_of, pending, leaves_write, begun_snap, own_entry, added as entries, ended, ended_by_append}
 use Rattle.hy_hub.specs.declared.occurrence.Occurrence.{Occurrence}
 use Rattle.hy_hub.specs.declared.occurrence.Occurrence.TheVariants.{Happened}
 use Rattle.hy_hub.specs.Turns.{is_event_of}
@@ -96,7 +96,7 @@ refuse_turn script c list k s added x snap turns told here none at runs within w
     let cl = closing script c x.next s snap list k (Happened (Refuse c) added) turns told here works in
     let wrote : leaves_write script s c ≡ true = wrote_is script s c x snap at runs ∙ cl.ends.1 in
     close_turn script c list s (Refuse c) added x snap (Happened (Refuse c) added) turns told (at_next_program x) cl (wrote, none) (nth_changed at_next_program s.sessions c x at) refl refl within
-    (λ t q e. ended_here script s c x snap at runs ByFullLog ∙ (λ i. record { client = c; number = x.next; snap = sym q i; ending = ending_of (sym e i) } ∷ []))
+    (λ t q e. ended_here script s c x snap at runs ByFull ∙ (λ i. record { client = c; number = x.next; snap = sym q i; ending = ending_of (sym e i) } ∷ []))
 
 -- ---- any turn of the client
 

@@ -330,13 +330,13 @@ fn end_reading<D: Disk, R: Wait, G>(
 // How a program that wrote has ended, by the answer to its append. None where the client is out of turn.
 fn appended(answer: Result<Pos, AppendRefusal>) -> Result<Option<ProgramEnd>, Cut>
     ensures entered { (pos : _) → result ≡ Ok (Some (ProgramEnd.EntryAt pos)) → answer ≡ Ok pos }
-    ensures full { result ≡ Ok (Some ProgramEnd.FullLog) → answer ≡ Err AppendRefusal.Full }
+    ensures full { result ≡ Ok (Some ProgramEnd.Full) → answer ≡ Err AppendRefusal.Full }
     ensures read { result ≢ Ok (Some ProgramEnd.Reading) }
     ensures not { result ≡ Ok None → (who : _) × (phase : _) × (answer ≡ Err (AppendRefusal.OutOfTurn who phase)) }
 {
     match answer {
         Ok(pos) => Ok(Some(ProgramEnd::EntryAt { pos })),
-        Err(AppendRefusal::Full) => Ok(Some(ProgramEnd::FullLog)),
+        Err(AppendRefusal::Full) => Ok(Some(ProgramEnd::Full)),
         Err(AppendRefusal::OutOfTurn { .. }) => Ok(None),
         Err(AppendRefusal::Memory) => Err(Cut),
         Err(AppendRefusal::Stopped { .. }) => Err(Cut),

@@ -236,7 +236,7 @@ impl Roller {
                 let verdict = self.kept_verdict(pos)?;
                 Some(Outcome::At { pos, verdict })
             }
-            ProgramEnd::FullLog => Some(Outcome::Full),
+            ProgramEnd::Full => Some(Outcome::Full),
         }
     }
 

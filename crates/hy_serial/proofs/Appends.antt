@@ -17,7 +17,7 @@ use Rattle.hy_base.specs.Lists.{nth}
 use Rattle.hy_base.specs.Script.{Workload}
 use Rattle.hy_rules.specs.Exec.{Effects, exec, intention}
 use Rattle.hy_rules.specs.Moves.{State, is_begun, is_kept, surviving, home_server}
-use Rattle.hy_rules.specs.Runs.{setting_of, program_of, snap_of, leaves_write, begun_snap, own_entry, Ending, ByReading, ByEntryAt, ByFullLog, ByStop, Ended, ended, lost_by_stop, ended_by_append}
+use Rattle.hy_rules.specs.Runs.{setting_of, program_of, snap_of, leaves_write, begun_snap, own_entry, Ending, ByReading, ByEntryAt, ByFull, ByStop, Ended, ended, lost_by_stop, ended_by_append}
 use Rattle.hy_rules.specs.Validation.{live}
 use Rattle.hy_serial.proofs.Snapshots.{IsSnap, PhaseSnap, HasSnaps, all_from, all_at_nth}
 use Rattle.hy_serial.proofs.Told.{IsLeftByProgram, ReadTold, EndingTold, Told, appended_at, within_log, live_longer}
@@ -28,7 +28,7 @@ use Rattle.hy_serial.proofs.Told.{IsLeftByProgram, ReadTold, EndingTold, Told, a
 abbrev pub QuietEnding : Workload → ℕ → Ended → Ending → Type 0
 QuietEnding script len e ByReading = ReadTold script len e
 QuietEnding script len e (ByEntryAt pos) = ⊥
-QuietEnding script len e ByFullLog = ⊤
+QuietEnding script len e ByFull = ⊤
 QuietEnding script len e ByStop = ⊤
 
 abbrev pub AreQuiet : Workload → ℕ → List Ended → Type 0
@@ -37,7 +37,7 @@ AreQuiet script len done = AllByRecursion (λ e. QuietEnding script len e e.endi
 pub quiet_told : (script : Workload) (log : List EntryKind) (start : ℕ) (done : List Ended) (e : Ended) (ending : Ending) → QuietEnding script (length log) e ending → EndingTold script log start done e ending
 quiet_told script log start done e ByReading h = h
 quiet_told script log start done e (ByEntryAt pos) h = absurd h
-quiet_told script log start done e ByFullLog h = tt
+quiet_told script log start done e ByFull h = tt
 quiet_told script log start done e ByStop h = tt
 
 either_quiet : (script : Workload) (len : ℕ) (b : Bool) (e : Ended) (done : List Ended) → QuietEnding script len e e.ending → AreQuiet script len done → AreQuiet script len (cons_option (if b then Some e else None) done)

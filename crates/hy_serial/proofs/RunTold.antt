@@ -17,7 +17,7 @@ use Rattle.hy_base.specs.declared.workload.Session.{Session}
 use Rattle.hy_base.specs.Lists.{nth}
 use Rattle.hy_base.specs.Script.{Workload}
 use Rattle.hy_rules.specs.Moves.{Setting, State, is_begun, client_passes, enabled, surviving, missing, restarted}
-use Rattle.hy_rules.specs.Runs.{setting_of, opening_of, snap_of, suits, added, begun_snap, run, Ending, ByReading, ByFullLog, Ended, ended, ended_by, ended_in, lost_by_stop}
+use Rattle.hy_rules.specs.Runs.{setting_of, opening_of, snap_of, suits, added, begun_snap, run, Ending, ByReading, ByFull, Ended, ended, ended_by, ended_in, lost_by_stop}
 use Rattle.hy_rules.proofs.Backward.{next_state, run_back}
 use Rattle.hy_serial.proofs.Snapshots.{IsSnap, PhaseSnap, HasSnaps, snaps_after, snaps_opening, all_at_nth}
 use Rattle.hy_serial.proofs.Programs.{AtPrograms, programs_after, programs_opening, begun_there}
@@ -59,8 +59,8 @@ reading_quiet script s client e reached =
       program = (reached.programs client x at).there (begun_there script s client x at e);
     }) (begun_snap s client) (λ x at. begun_at_snap s client x at)
 
-refused_quiet : (script : Workload) (s : State) (client : ℕ) → AreQuiet script (length s.log) (ended s client ByFullLog)
-refused_quiet script s client = ended_case script (length s.log) client ByFullLog (nth s.sessions client) (λ x at. tt) (begun_snap s client) (λ x at. begun_at_snap s client x at)
+refused_quiet : (script : Workload) (s : State) (client : ℕ) → AreQuiet script (length s.log) (ended s client ByFull)
+refused_quiet script s client = ended_case script (length s.log) client ByFull (nth s.sessions client) (λ x at. tt) (begun_snap s client) (λ x at. begun_at_snap s client x at)
 
 -- an event that leaves the log as it is
 stays : (script : Workload) (s : State) (event : Event) → (next_state script s event).log ≡ s.log → AreQuiet script (length s.log) (ended_by s event) → Steps script s event

@@ -15,7 +15,7 @@ use Rattle.hy_base.specs.Lists.{nth}
 use Rattle.hy_base.specs.Script.{Workload}
 use Rattle.hy_rules.specs.Exec.{exec, intention}
 use Rattle.hy_rules.specs.History.{pairs_of}
-use Rattle.hy_rules.specs.Runs.{program_of, Ending, ByReading, ByEntryAt, ByFullLog, ByStop, Ended}
+use Rattle.hy_rules.specs.Runs.{program_of, Ending, ByReading, ByEntryAt, ByFull, ByStop, Ended}
 use Rattle.hy_rules.specs.Validation.{live}
 use Rattle.hy_rules.proofs.Growth.{growth_keeps_rows}
 use Rattle.hy_rules.specs.Serial.{is_entry_at}
@@ -47,7 +47,7 @@ pub record ReadTold (script : Workload) (len : ℕ) (e : Ended) : Type 0 where
 abbrev pub EndingTold : Workload → List EntryKind → ℕ → List Ended → Ended → Ending → Type 0
 EndingTold script log start done e ByReading = ReadTold script (length log) e
 EndingTold script log start done e (ByEntryAt pos) = EntryTold script log start done e pos
-EndingTold script log start done e ByFullLog = ⊤
+EndingTold script log start done e ByFull = ⊤
 EndingTold script log start done e ByStop = ⊤
 
 -- of the log past a position: each entry of a program is that of one that ended by it, and each transaction has one
@@ -129,7 +129,7 @@ own_longer script log more e pos h =
 early_entry : (script : Workload) (log : List EntryKind) (start pos : ℕ) (done : List Ended) (e : Ended) (ending : Ending) → length log < pos → EndingTold script log start done e ending → is_entry_at pos ending ≡ false
 early_entry script log start pos done e ByReading past h = refl
 early_entry script log start pos done e (ByEntryAt at) past h = let place : at ≤ length log = within_log log at _ h.own.entry in ne_eqb at pos (λ same. omega (arith, same, place, past))
-early_entry script log start pos done e ByFullLog past h = refl
+early_entry script log start pos done e ByFull past h = refl
 early_entry script log start pos done e ByStop past h = refl
 
 front_stays : (script : Workload) (log more : List EntryKind) (start : ℕ) (front done : List Ended) (e : Ended) (ending : Ending) → EndingTold script log start front e ending → EndingTold script (log ++ more) start (front ++ done) e ending
@@ -138,7 +138,7 @@ front_stays script log more start front done e ByReading h =
     record { snap = record { whole = h.snap.whole; within = omega (arith, within, length-append log more) }; program = h.program }
 front_stays script log more start front done e (ByEntryAt pos) h =
     record { late = h.late; found = found_left (λ d. is_entry_at pos d.ending) front done e h.found; own = own_longer script log more e pos h.own }
-front_stays script log more start front done e ByFullLog h = tt
+front_stays script log more start front done e ByFull h = tt
 front_stays script log more start front done e ByStop h = tt
 
 back_stays : (script : Workload) (log : List EntryKind) (start mid : ℕ) (front done : List Ended) (e : Ended) (ending : Ending) → start ≤ mid → ((pos : ℕ) → mid < pos → AllByRecursion (λ d. is_entry_at pos d.ending ≡ false) front)
@@ -146,7 +146,7 @@ back_stays : (script : Workload) (log : List EntryKind) (start mid : ℕ) (front
 back_stays script log start mid front done e ByReading le early h = h
 back_stays script log start mid front done e (ByEntryAt pos) le early h =
     record { late = omega (arith, le, h.late); found = passed_over (λ d. is_entry_at pos d.ending) front done (early pos h.late) ∙ h.found; own = h.own }
-back_stays script log start mid front done e ByFullLog le early h = tt
+back_stays script log start mid front done e ByFull le early h = tt
 back_stays script log start mid front done e ByStop le early h = tt
 
 -- what is told of a part of the log, and of the rest of it
