@@ -213,6 +213,11 @@ pub record IsUnfinishedAt (clients : List Client) (client_states : List ClientSt
   pub session_is : is.client_state.session ≡ session
   pub server_is : is.own.server ≡ server
 
+-- of a roller and of these, the furthest that hasn't passed a position
+abbrev pub furthest : ℕ → Roll → List Roll → Roll
+furthest upto best [] = best
+furthest upto best (r ∷ rs) = furthest upto (if nat_lt (rolled_upto best) (rolled_upto r) && nat_le (rolled_upto r) upto then r else best) rs
+
 -- the first of these servers, the first of which has this number, whose board is below the log's length
 abbrev pub first_behind : ℕ → ℕ → List Roll → Option ℕ
 first_behind number len [] = None
