@@ -1,5 +1,5 @@
 -- What is kept after a publish: the furthest roller that hasn't passed the position goes on to it.
-use Rattle.std.proofs.Common.{◌≡◌, ℕ, ◌+◌, ◌%◌, ◌<◌, ◌≤◌, Bool, true, false, List, [], ◌∷◌, ◌++◌, length, map, refl, ap, sym, ◌∙◌, subst, arith}
+use Rattle.std.proofs.Common.{◌≡◌, ℕ, ◌+◌, ◌%◌, ◌<◌, ◌≤◌, Bool, true, false, List, [], ◌∷◌, length, map, refl, ap, sym, ◌∙◌, subst, arith}
 use Rattle.std.proofs.Math.Nat.{mul-mod_right}
 use Rattle.std.proofs.lemmas.List.{append-nil}
 use Rattle.std.specs.Prelude.{◌&&◌, ◌==◌, nat_lt, nat_le, Some, if◌then◌else◌}
@@ -70,13 +70,12 @@ pub record CanRoll (script : Workload) (h : Holding) (server upto : ℕ) (r : Ro
   pub room : rolled_upto r + length (entries_between h.log (rolled_upto r) upto) ≤ r.shape.cap
   pub place : IsWithin 1 (length h.rollers) server
 
-pub can_roll : (script : Workload) (h : Holding) (server upto : ℕ) (own : Roll) → IsHolding script h → may_happen script (state_in_course h) (Publish server upto) ≡ true → nth h.rollers server ≡ Some own → CanRoll script h server upto (furthest upto own h.rollers)
-can_roll script h server upto own is may at =
+pub can_roll : (script : Workload) (h : Holding) (server upto : ℕ) (own r : Roll) → IsHolding script h → may_happen script (state_in_course h) (Publish server upto) ≡ true → nth h.rollers server ≡ Some own → r ≡ furthest upto own h.rollers → CanRoll script h server upto r
+can_roll script h server upto own r is may at far =
     let m : MayPublish script h server upto = may_publish script h server upto may in
     let above : rolled_upto own < upto = subst (λ n. n < upto) (board_is h server own at) m.above in
-    let r : Roll = furthest upto own h.rollers in
-    let low : rolled_upto r ≤ upto = furthest_low upto own h.rollers (omega (arith, above)) in
-    let b : IsServerBoard script h.log r = furthest_is (IsServerBoard script h.log) upto own h.rollers (all_nth (IsServerBoard script h.log) h.rollers server own is.boards at) is.boards in
+    let low : rolled_upto r ≤ upto = subst (λ x. rolled_upto x ≤ upto) (sym far) (furthest_low upto own h.rollers (omega (arith, above))) in
+    let b : IsServerBoard script h.log r = subst (IsServerBoard script h.log) (sym far) (furthest_is (IsServerBoard script h.log) upto own h.rollers (all_nth (IsServerBoard script h.log) h.rollers server own is.boards at) is.boards) in
     let entries : List EntryKind = entries_between h.log (rolled_upto r) upto in
     let groups : WholeGroups script entries = between_groups script h.log r upto b low m.within m.whole in
     let whole : length entries % script.shape.group ≡ 0 = ap (λ n. n % script.shape.group) groups.is ∙ mul-mod_right script.shape.group groups.count in

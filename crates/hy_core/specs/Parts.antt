@@ -18,7 +18,7 @@ use Rattle.hy_rules.specs.Exec.{Effects, exec, intention}
 use Rattle.hy_rolling.specs.Rolling.{Roll, rolled_upto, Stands}
 use Rattle.hy_base.specs.Shape.{is_within, whole_groups}
 use Rattle.hy_rules.specs.Moves.{State, surviving, client_passes, is_begun, fresh_session, after}
-use Rattle.hy_rules.specs.Runs.{snap_of, Ending, ByReading, ByEntryAt, ByFull, ByStop, Ended, answers_to, setting_of, leaves_write, added, ended_by, is_done}
+use Rattle.hy_rules.specs.Runs.{snap_of, Ending, ByStop, Ended, answers_to, setting_of, leaves_write, added, ended_by, is_done}
 use Rattle.hy_formats.specs.EntryFormat.{spelling}
 use Rattle.hy_memlog.specs.Pages.{Pages, IsStop, with_body, broken_log}
 use Rattle.hy_exec.specs.Running.{notes_write}
