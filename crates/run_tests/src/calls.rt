@@ -123,15 +123,15 @@ pub fn log_of<D: Drop>(done: Done<D>) -> D {
 
 /// What a call is to answer and to write: its exit status, and the rest.
 #[derive(Clone, Copy)]
-pub struct Answer<'a> {
+pub struct CallAnswer<'a> {
     pub number: u8,
     pub acked: Pos,
     pub text: &'a [u8],
 }
 
 /// What a call is to write that ends well over a log which then has so many entries.
-pub fn fine(acked: Pos, text: &[u8]) -> Answer<'_> {
-    Answer {
+pub fn fine(acked: Pos, text: &[u8]) -> CallAnswer<'_> {
+    CallAnswer {
         number: 0,
         acked,
         text,
@@ -139,7 +139,7 @@ pub fn fine(acked: Pos, text: &[u8]) -> Answer<'_> {
 }
 
 /// Whether a call answered and wrote this.
-pub fn is_answered<D>(done: &Done<D>, sink: &MemSink, wanted: Answer<'_>) -> bool {
+pub fn is_answered<D>(done: &Done<D>, sink: &MemSink, wanted: CallAnswer<'_>) -> bool {
     done.status.number() == wanted.number
         && done.acked == wanted.acked
         && sink.taken() == wanted.text
@@ -153,7 +153,7 @@ pub fn told<R: Threads + Wait + Sync>(
     asked: &[&str],
     script: &[u8],
     log: MemDisk,
-    wanted: Answer<'_>,
+    wanted: CallAnswer<'_>,
 ) -> Result<MemDisk, Fail> {
     let (done, sink) = ask(rt, alloc, asked, script, log, &OpenGate)?;
     let is_told = is_answered(&done, &sink, wanted);

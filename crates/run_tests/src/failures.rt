@@ -2,7 +2,8 @@
 ghost use Rattle.std.specs.Prelude.{◌≤◌};
 
 use crate::calls::{
-    Answer, RUN, ask, call, call_on, empty, ended, ensured, fine, is_answered, log_of, roomy, told,
+    CallAnswer, RUN, ask, call, call_on, empty, ended, ensured, fine, is_answered, log_of, roomy,
+    told,
 };
 use crate::logs::{DUMP, NO_CLIENT, NONE, ONE_PUT, one_put};
 use hy_base::Pos;
@@ -54,8 +55,8 @@ fn is_touched(done: &Done<MemDisk>) -> bool {
 }
 
 // A call that was refused, with no entry in its log, and its line.
-fn refused(number: u8, text: &[u8]) -> Answer<'_> {
-    Answer {
+fn refused(number: u8, text: &[u8]) -> CallAnswer<'_> {
+    CallAnswer {
         number,
         acked: 0,
         text,
@@ -78,7 +79,7 @@ fn two_sums<R: Threads + Wait + Sync>(
 }
 
 // Whether it ended as if nothing failed. None where it ended neither so nor with this refusal.
-fn outcome(done: &Done<MemDisk>, sink: &MemSink, refusal: Answer<'_>) -> Option<bool> {
+fn outcome(done: &Done<MemDisk>, sink: &MemSink, refusal: CallAnswer<'_>) -> Option<bool> {
     if is_answered(done, sink, fine(0, TWO_SUMS_OUT)) {
         return Some(true);
     }
@@ -475,8 +476,8 @@ fn is_left<R: Threads + Wait + Sync>(
     rt: &R,
     alloc: Global,
     pattern: u8,
-    dump: Answer<'_>,
-    again: Answer<'_>,
+    dump: CallAnswer<'_>,
+    again: CallAnswer<'_>,
 ) -> Result<(), Fail>
     requires { pattern ≤ 2 }
 {
@@ -508,7 +509,7 @@ fn crashed<R: Threads + Wait + Sync>(
 {
     let (done, sink) = ask(rt, alloc, RUN, THREE_CLIENTS, failing(alloc, k)?, &OpenGate)?;
     let acked = done.acked;
-    let wanted = Answer {
+    let wanted = CallAnswer {
         number: 5,
         acked,
         text: b"hyder: device log\n",
