@@ -16,12 +16,12 @@ module _ {D : Type 0} (content : D → Content) (moment : D → ℕ) (left_since
     (before : IsLook content moment left_since faults_of has_room old mid looked) where
   -- the next look answered
   pub look_answers : {T U E F : Type 0} (read : Result T E) (x : U) → IsLook content moment left_since faults_of has_room mid new read → IsLook content moment left_since faults_of has_room old new (ok_of {F = F} x)
-  look_answers read x look = look_ok content moment left_since faults_of has_room old new read x (looks content moment left_since faults_of has_room old mid new looked read before look)
+  look_answers read x look = look_ok x (looks before look)
 
   -- the next look failed
   pub look_fails : {T U E F : Type 0} (e : E) (result : Result U F) → IsErr result → IsLook content moment left_since faults_of has_room mid new (err_of {T = T} e)
       → IsLook content moment left_since faults_of has_room old new result
   look_fails {T = T} e (Ok x) failed look = absurd (true≢false (sym failed))
   look_fails {T = T} e (Err f) failed look =
-      let all = looks content moment left_since faults_of has_room old mid new looked (err_of {T = T} e) before look in
+      let all = looks before look in
       record { same = all.same; quiet = all.quiet; cause = record { later = all.cause.later; failed = all.cause.failed }; room = λ k b has. absurd (true≢false (sym (all.room k b has).0)) }

@@ -19,6 +19,10 @@ module _ {T E : Type 0} (result : Result T E) (e : E) where
   pub if_err : (P : E → Type 0) → result ≡ Err e → P e → IfErr result P
   if_err P is holds = subst (λ r. IfErr r P) (sym is) holds
 
+  -- of a result that is told to be this error
+  pub gives_err : (P : E → Type 0) → IsErrAnd result (λ error. error ≡ e) → P e → IfErr result P
+  gives_err P is = if_err P (gives is)
+
   pub on_err : (P : Type 0) → result ≡ Err e → P → OnErr result P
   on_err P is holds = subst (λ r. OnErr r P) (sym is) holds
 

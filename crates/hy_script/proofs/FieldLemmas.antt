@@ -9,9 +9,10 @@ use Rattle.hy_base.specs.Script.{Workload}
 use Rattle.hy_script.specs.Grammar.{event_forms, makes_if, publish, stop}
 use Rattle.hy_base.specs.Spelling.{Text, number_of}
 use Rattle.hy_script.specs.Forms.{Meaning, LineForm, Alone, OneNumber, TwoNumbers, ThreeNumbers, NumberAndText, judged_words, read_line, read_fields, meaning_of, field_count, is_blank}
-use Rattle.hy_script.specs.Fields.{and_then, in_range, one_number, two_numbers, three_numbers, number_and_text, no_fields}
+use Rattle.hy_script.specs.Fields.{HasFields, HasWords, and_then, in_range, one_number, two_numbers, three_numbers, number_and_text, no_fields}
 use Rattle.hy_base.specs.Shape.{is_within}
 use Rattle.hy_base.specs.declared.workload.Event.{Event}
+use Rattle.hy_script.specs.declared.words.Fields.{Fields}
 use Rattle.hy_script.specs.declared.why.Why.{Why}
 use Rattle.hy_script.specs.declared.why.Why.TheVariants.{Form, Number, Range}
 
@@ -75,28 +76,29 @@ ranged low high make (Ok n) = in_or_out (is_within low high n) where
   in_or_out true = refl
   in_or_out false = refl
 
+-- a line whose word is a letter, with fields, is read as the form of that letter reads them
+letter_line : (script : Workload) (letter : ℕ) {words fields : List Text} {word : Text} {read : Result Event Why} → words ≡ word ∷ fields → word ≡ letter ∷ [] → read_line (event_forms script) ((letter ∷ []) ∷ fields) ≡ read → read_line (event_forms script) words ≡ read
+letter_line script letter {fields = fields} split named form = ap (read_line (event_forms script)) (split ∙ ap (λ x. x ∷ fields) named) ∙ form
+
 -- a line of a letter and a number between two others is read once that number is: it makes its event, or fails as the number does
-module _ (script : Workload) (words rest : List Text) (word : Text) (letter : ℕ) (low high : ℕ) (event : ℕ → Event) (read : Result ℕ Why)
-    (split : words ≡ word ∷ rest) (named : word ≡ letter ∷ [])
-    (form : read_line (event_forms script) ((letter ∷ []) ∷ rest) ≡ and_then (one_number rest) (λ n. judged_words (makes_if ((is_within low high n, Range) ∷ []) (event n))))
-    (told : read ≡ and_then (one_number rest) (in_range low high)) where
+module _ (script : Workload) {words : List Text} {word : Text} (entry : Fields) (letter low high : ℕ) (event : ℕ → Event) {read : Result ℕ Why} (cut : HasWords words word entry) (named : word ≡ letter ∷ [])
+    (form : (fields : List Text) → read_line (event_forms script) ((letter ∷ []) ∷ fields) ≡ and_then (one_number fields) (λ n. judged_words (makes_if ((is_within low high n, Range) ∷ []) (event n))))
+    (told : (fields : List Text) → HasFields entry fields → read ≡ and_then (one_number fields) (in_range low high)) where
   numbered : read_line (event_forms script) words ≡ and_then read (λ n. Ok (event n))
-  numbered = ap (read_line (event_forms script)) (split ∙ ap (λ x. x ∷ rest) named) ∙ form ∙ ranged low high event (one_number rest) ∙ ap (λ r. and_then r (λ n. Ok (event n))) (sym told)
+  numbered = letter_line script letter cut.1 named (form cut.0) ∙ ranged low high event (one_number cut.0) ∙ ap (λ r. and_then r (λ n. Ok (event n))) (sym (told cut.0 cut.2))
 
-  pub line_made : (n : ℕ) → read ≡ Ok n → Ok (event n) ≡ read_line (event_forms script) words
-  line_made n is = sym (numbered ∙ ap (λ r. and_then r (λ n. Ok (event n))) is)
+  pub line_made : {n : ℕ} → read ≡ Ok n → Ok (event n) ≡ read_line (event_forms script) words
+  line_made is = sym (numbered ∙ ap (λ r. and_then r (λ n. Ok (event n))) is)
 
-  pub line_refused : (why : Why) (result : Result Event Why) → read ≡ Err why → IsErrAnd result (λ x. x ≡ why) → result ≡ read_line (event_forms script) words
-  line_refused why (Ok e) is was = absurd was
-  line_refused why (Err x) is was = ap (λ y. Err y) was ∙ sym (numbered ∙ ap (λ r. and_then r (λ n. Ok (event n))) is)
+  pub line_refused : {why : Why} (result : Result Event Why) → read ≡ Err why → IsErrAnd result (λ x. x ≡ why) → result ≡ read_line (event_forms script) words
+  line_refused (Ok e) is was = absurd was
+  line_refused (Err x) is was = ap (λ y. Err y) was ∙ sym (numbered ∙ ap (λ r. and_then r (λ n. Ok (event n))) is)
 
-pub publish_line : (script : Workload) (words rest : List Text) (word : Text) → words ≡ word ∷ rest → word ≡ 114 ∷ []
-    → read_line (event_forms script) words ≡ and_then (two_numbers rest) (λ p. judged_words (publish script p.0 p.1))
-publish_line script words rest word e w = ap (read_line (event_forms script)) (e ∙ ap (λ x. x ∷ rest) w) ∙ read_two "r" (publish script) rest
+pub publish_line : (script : Workload) {words : List Text} {word : Text} (entry : Fields) → HasWords words word entry → word ≡ 114 ∷ [] → {read : Result Event Why} → ((fields : List Text) → HasFields entry fields → read ≡ and_then (two_numbers fields) (λ p. judged_words (publish script p.0 p.1))) → read ≡ read_line (event_forms script) words
+publish_line script entry cut named told = told cut.0 cut.2 ∙ sym (letter_line script 114 cut.1 named (read_two "r" (publish script) cut.0))
 
-pub stop_line : (script : Workload) (words rest : List Text) (word : Text) → words ≡ word ∷ rest → word ≡ 116 ∷ []
-    → read_line (event_forms script) words ≡ and_then (two_numbers rest) (λ p. judged_words (stop p.0 p.1))
-stop_line script words rest word e w = ap (read_line (event_forms script)) (e ∙ ap (λ x. x ∷ rest) w) ∙ read_two "t" stop rest
+pub stop_line : (script : Workload) {words : List Text} {word : Text} (entry : Fields) → HasWords words word entry → word ≡ 116 ∷ [] → {read : Result Event Why} → ((fields : List Text) → HasFields entry fields → read ≡ and_then (two_numbers fields) (λ p. judged_words (stop p.0 p.1))) → read ≡ read_line (event_forms script) words
+stop_line script entry cut named told = told cut.0 cut.2 ∙ sym (letter_line script 116 cut.1 named (read_two "t" stop cut.0))
 
 three_fields : {T : Type 0} (t : Bool) (meaning : ℕ → ℕ → ℕ → Meaning T) (x y z : Option ℕ)
     → (if t then Err Form else option_map_or (λ m. judged_words m) (option_and_then (λ l. option_and_then (λ m. option_and_then (λ n. Some (meaning l m n)) z) y) x) (Err Number))

@@ -54,7 +54,7 @@ pub returns-in_err-shut-clause-unarmed : goal.returns-in_err-shut-clause-unarmed
 returns-in_err-shut-clause-unarmed g c = c.shut.ensures.unarmed
 
 pub returns-clause-cause : goal.returns-clause-cause
-returns-clause-cause g c = cause_then g.D.Disk.content g.D.Disk.moment g.D.Disk.left_since g.D.Disk.faults_of g.D.Disk.has_room _ _ _ c.store.result c.shut.ensures.cause.later c.store.ensures.cause
+returns-clause-cause g c = cause_then _ _ _ c.store.result c.shut.ensures.cause.later c.store.ensures.cause
 
 pub returns-clause-unarmed : goal.returns-clause-unarmed
 returns-clause-unarmed g c unarmed = c.store.ensures.unarmed (c.shut.ensures.unarmed unarmed)
