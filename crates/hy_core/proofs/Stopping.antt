@@ -41,6 +41,7 @@ pub record Appending (script : Workload) (h : Holding) (client : ℕ) (e : Entry
   pub may : may_happen script (state_in_course h) (Append client) ≡ true
   pub own : IsLeftEntry h client e
 
+-- that entry is found among the clients' states
 pub appending : {script : Workload} {h : Holding} {client_states : List ClientState} {found e : EntryKind} (client : ℕ) → IsScript script → IsHolding script h → may_happen script (state_in_course h) (Append client) ≡ true → client_states ≡ h.client_states → Some found ≡ left_entry client_states client → e ≡ found → Appending script h client e
 appending client script_is is may states found same = record { script_is = script_is; is = is; may = may; own = ap (λ xs. left_entry xs client) (sym states) ∙ (sym found ∙ ap (λ e. Some e) (sym same)) }
 
