@@ -1,10 +1,10 @@
 -- What holds of a result that is an error.
-use Rattle.std.proofs.Common.{◌≡◌, true, false, Result, Ok, Err, IsErr, IfOk, IfErr, OnOk, OnErr, sym, ◌∙◌, ap, subst}
+use Rattle.std.proofs.Common.{◌≡◌, Result, Ok, Err, IsErr, IfOk, IfErr, OnOk, OnErr, sym, ◌∙◌, ap, subst}
 use Rattle.std.specs.Result.{IsErrAnd}
 use Rattle.std.proofs.lemmas.Result.{err_from_is_err_and}
-
-pub no : {A : Type 0} → false ≡ true → A
-no is = absurd cc
+use Rattle.std.proofs.lemmas.Bool.{false≢true}
+use Rattle.hy_formats.specs.declared.refusal.OpenError.TheVariants as opening
+use Rattle.hy_base.proofs.ResultLemmas.{err_of}
 
 module _ {T E : Type 0} (result : Result T E) (e : E) where
   pub gives : IsErrAnd result (λ error. error ≡ e) → result ≡ Err e
@@ -23,17 +23,13 @@ module _ {T E : Type 0} (result : Result T E) (e : E) where
   on_err P is holds = subst (λ r. OnErr r P) (sym is) holds
 
 pub no_ok : {T E : Type 0} (P : T → Type 0) (result : Result T E) → IsErr result → IfOk result P
-no_ok P (Ok x) failed = no failed
+no_ok P (Ok x) failed = absurd (false≢true failed)
 no_ok P (Err e) failed = tt
 
 pub none_ok : {T E : Type 0} (P : Type 0) (result : Result T E) → IsErr result → OnOk result P
-none_ok P (Ok x) failed = no failed
+none_ok P (Ok x) failed = absurd (false≢true failed)
 none_ok P (Err e) failed = tt
 
-pub any_err : {T E : Type 0} (P : Type 0) (result : Result T E) → P → OnErr result P
-any_err P (Ok x) holds = tt
-any_err P (Err e) holds = holds
-
-pub then_ok : {T E : Type 0} (P Q : Type 0) (result : Result T E) → (P → Q) → OnOk result P → OnOk result Q
-then_ok P Q (Ok x) leads holds = leads holds
-then_ok P Q (Err e) leads holds = tt
+-- an answer is no fault of the device
+pub ok_is_no_fault : {T : Type 0} (x : T) → Ok x ≡ err_of opening.Device → ⊥
+ok_is_no_fault x is = absurd cc

@@ -15,12 +15,15 @@ use Rattle.hy_base.specs.declared.workload.Program.{Program}
 use Rattle.hy_base.specs.declared.workload.Session.{Session}
 use Rattle.hy_base.specs.Lists.{nth}
 use Rattle.hy_base.specs.Script.{Workload}
+use Rattle.hy_base.proofs.ListLemmas.{all_map}
+use Rattle.hy_base.proofs.NthLemmas.{all_nth}
 use Rattle.hy_rules.specs.Exec.{Effects, exec, intention}
 use Rattle.hy_rules.specs.Moves.{State, is_begun, is_kept, surviving, home_server}
 use Rattle.hy_rules.specs.Runs.{setting_of, program_of, snap_of, leaves_write, begun_snap, own_entry, Ending, ByReading, ByEntryAt, ByFullLog, ByStop, Ended, ended, lost_by_stop, ended_by_append}
 use Rattle.hy_rules.specs.Validation.{live}
-use Rattle.hy_serial.proofs.Snapshots.{IsSnap, PhaseSnap, HasSnaps, all_from, all_at_nth}
-use Rattle.hy_serial.proofs.Told.{IsLeftByProgram, ReadTold, EndingTold, Told, appended_at, within_log, live_longer}
+use Rattle.hy_rules.proofs.Growth.{live_grows}
+use Rattle.hy_serial.proofs.Snapshots.{IsSnap, PhaseSnap, HasSnaps}
+use Rattle.hy_serial.proofs.Told.{IsLeftByProgram, ReadTold, EndingTold, Told, appended_at, within_log}
 
 -- ---- programs that ended without an entry
 
@@ -72,7 +75,7 @@ no_program log more (suc k) i past a e = filler_at log more k i (omega (arith, p
 -- an event that adds at most fillers, and ends programs without entries
 pub told_quiet : (script : Workload) (log more : List EntryKind) (done : List Ended) → AllByRecursion IsFiller more → AreQuiet script (length (log ++ more)) done → Told script (log ++ more) (length log) done
 told_quiet script log more done fillers quiet = record {
-  each = all_from (λ e. QuietEnding script (length (log ++ more)) e e.ending) (λ e. EndingTold script (log ++ more) (length log) done e e.ending)
+  each = all_map (λ e. QuietEnding script (length (log ++ more)) e e.ending) (λ e. EndingTold script (log ++ more) (length log) done e e.ending)
       (λ e h. quiet_told script (log ++ more) (length log) done e e.ending h) done quiet;
   all = λ pos i past at. absurd (no_program log more pos i past fillers at);
 }
@@ -135,7 +138,7 @@ module _ (script : Workload) (s : State) (client : ℕ) (b : IsBegun script s cl
   ended_is = its_end s client b.session b.snap (ByEntryAt (length s.log + 1)) b.at b.phase
 
   is_snap : IsSnap script.shape.group (length s.log) b.snap
-  is_snap = let phase : PhaseSnap script.shape.group (length s.log) b.session.phase = all_at_nth (λ x. PhaseSnap script.shape.group (length s.log) x.phase) s.sessions client b.session snaps.sessions b.at in subst (PhaseSnap script.shape.group (length s.log)) b.phase phase
+  is_snap = let phase : PhaseSnap script.shape.group (length s.log) b.session.phase = all_nth (λ x. PhaseSnap script.shape.group (length s.log) x.phase) s.sessions client b.session snaps.sessions b.at in subst (PhaseSnap script.shape.group (length s.log)) b.phase phase
 
   last_get : (log : List EntryKind) (e : EntryKind) → slice_get (log ++ e ∷ []) (length log) ≡ Some e
   last_get [] e = refl
@@ -151,7 +154,7 @@ module _ (script : Workload) (s : State) (client : ℕ) (b : IsBegun script s cl
     is = b.is;
     whole = is_snap.whole;
     below = omega (arith, is_snap.within);
-    entry = last_at s.log entry ∙ ap (λ pairs. Some (Txn (intention server client b.snap (exec b.program pairs).1))) (sym (live_longer script.shape s.log (entry ∷ []) b.snap is_snap.within));
+    entry = last_at s.log entry ∙ ap (λ pairs. Some (Txn (intention server client b.snap (exec b.program pairs).1))) (sym (live_grows script.shape s.log (entry ∷ []) b.snap is_snap.within));
   }
 
   found_first : (rest : List Ended) → appended_at (length s.log + 1) (now ∷ rest) ≡ Some now
@@ -162,7 +165,7 @@ module _ (script : Workload) (s : State) (client : ℕ) (b : IsBegun script s cl
   told_entry lost quiet = record {
     each = (
       record { late = omega arith; found = found_first lost; own = own },
-      all_from (λ e. QuietEnding script (length (s.log ++ entry ∷ [])) e e.ending) (λ e. EndingTold script (s.log ++ entry ∷ []) (length s.log) (now ∷ lost) e e.ending)
+      all_map (λ e. QuietEnding script (length (s.log ++ entry ∷ [])) e e.ending) (λ e. EndingTold script (s.log ++ entry ∷ []) (length s.log) (now ∷ lost) e e.ending)
           (λ e h. quiet_told script (s.log ++ entry ∷ []) (length s.log) (now ∷ lost) e e.ending h) lost quiet,
     );
     all = λ pos i past at.

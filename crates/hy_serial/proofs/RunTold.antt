@@ -4,7 +4,6 @@ use Rattle.std.proofs.lemmas.Bool.{and_parts}
 use Rattle.std.proofs.lemmas.List.{append-nil}
 use Rattle.std.proofs.Math.Nat.{zero-mod}
 use Rattle.std.specs.Prelude.{Option, Some, None, is_some, option_map, option_to_list, replicate, unwrap_or, if◌then◌else◌}
-use Rattle.std.specs.Option.{option_map_or}
 use Rattle.std.specs.List.{AllByRecursion}
 use Rattle.hy_base.specs.declared.record.EntryKind.{EntryKind}
 use Rattle.hy_base.specs.declared.record.EntryKind.TheVariants.{Filler, Txn}
@@ -16,10 +15,12 @@ use Rattle.hy_base.specs.declared.workload.Phase.TheVariants.{Idle, Begun}
 use Rattle.hy_base.specs.declared.workload.Session.{Session}
 use Rattle.hy_base.specs.Lists.{nth}
 use Rattle.hy_base.specs.Script.{Workload}
-use Rattle.hy_rules.specs.Moves.{Setting, State, is_begun, client_passes, enabled, surviving, missing, restarted}
+use Rattle.hy_base.proofs.NthLemmas.{all_nth}
+use Rattle.hy_rules.specs.Moves.{State, is_begun, client_passes, enabled, surviving, missing}
 use Rattle.hy_rules.specs.Runs.{setting_of, opening_of, snap_of, suits, added, begun_snap, run, Ending, ByReading, ByFullLog, Ended, ended, ended_by, ended_in, lost_by_stop}
 use Rattle.hy_rules.proofs.Backward.{next_state, run_back}
-use Rattle.hy_serial.proofs.Snapshots.{IsSnap, PhaseSnap, HasSnaps, snaps_after, snaps_opening, all_at_nth}
+use Rattle.hy_rules.proofs.Answered.{stopped_log}
+use Rattle.hy_serial.proofs.Snapshots.{IsSnap, PhaseSnap, HasSnaps, snaps_after, snaps_opening}
 use Rattle.hy_serial.proofs.Programs.{AtPrograms, programs_after, programs_opening, begun_there}
 use Rattle.hy_serial.proofs.Told.{Told, told_both, within_log}
 use Rattle.hy_serial.proofs.Appends.{QuietEnding, AreQuiet, IsFiller, lost_quiet, told_quiet, append_told}
@@ -55,7 +56,7 @@ reading_quiet : (script : Workload) (s : State) (client : ℕ) → client_passes
 reading_quiet script s client e reached =
     let g : ℕ = script.shape.group in
     ended_case script (length s.log) client ByReading (nth s.sessions client) (λ x at. record {
-      snap = phase_snap g (length s.log) x.phase (all_at_nth (λ y. PhaseSnap g (length s.log) y.phase) s.sessions client x reached.snaps.sessions at);
+      snap = phase_snap g (length s.log) x.phase (all_nth (λ y. PhaseSnap g (length s.log) y.phase) s.sessions client x reached.snaps.sessions at);
       program = (reached.programs client x at).there (begun_there script s client x at e);
     }) (begun_snap s client) (λ x at. begun_at_snap s client x at)
 
@@ -69,10 +70,6 @@ stays script s event same quiet = record {
   is = same ∙ sym (append-nil s.log);
   told = told_quiet script s.log [] (ended_by s event) tt (subst (λ log. AreQuiet script (length log) (ended_by s event)) (sym (append-nil s.log)) quiet);
 }
-
-stopped_log : (w : Setting) (s : State) (o : Option ArmedStop) → (option_map_or (λ stop. restarted w s) o s).log ≡ s.log
-stopped_log w s None = refl
-stopped_log w s (Some stop) = refl
 
 fillers : (server n : ℕ) → AllByRecursion IsFiller (replicate n (Filler server))
 fillers server zero = tt

@@ -1,25 +1,23 @@
 -- The programs that a run ends, and the entries of its log past the start: each is told by the other.
-use Rattle.std.proofs.Common.{◌≡◌, ◌∙◌, ℕ, zero, suc, ◌*◌, ◌/◌, ◌%◌, ◌<◌, ◌≤◌, Bool, true, false, cond, List, [], ◌∷◌, ◌++◌, length, refl, sym, ap, arith, inl, inr, length-append}
+use Rattle.std.proofs.Common.{◌≡◌, ◌∙◌, ℕ, zero, suc, ◌%◌, ◌<◌, ◌≤◌, Bool, true, false, cond, List, [], ◌∷◌, ◌++◌, length, refl, sym, ap, arith, inl, inr, length-append}
 use mathlib.Core.Bool.{true≢false}
 use Rattle.std.proofs.lemmas.Bool.{cases_lt, ne_eqb}
 use Rattle.std.proofs.lemmas.Option.{slice_get_within}
-use Rattle.std.proofs.Math.Nat.{mul-div-le}
 use Rattle.std.specs.Prelude.{Option, Some, ⊤, is_some, find, slice_get}
 use Rattle.std.specs.List.{AllByRecursion}
-use Rattle.hy_base.specs.declared.layout.Shape.{Shape}
 use Rattle.hy_base.specs.declared.record.EntryKind.{EntryKind}
 use Rattle.hy_base.specs.declared.record.EntryKind.TheVariants.{Txn}
 use Rattle.hy_base.specs.declared.record.Intention.{Intention}
 use Rattle.hy_base.specs.declared.workload.Program.{Program}
 use Rattle.hy_base.specs.Lists.{nth}
 use Rattle.hy_base.specs.Script.{Workload}
+use Rattle.hy_base.proofs.ListLemmas.{all_map, all_append, slice_get_append_left}
 use Rattle.hy_rules.specs.Exec.{exec, intention}
-use Rattle.hy_rules.specs.History.{pairs_of}
 use Rattle.hy_rules.specs.Runs.{program_of, Ending, ByReading, ByEntryAt, ByFullLog, ByStop, Ended}
 use Rattle.hy_rules.specs.Validation.{live}
-use Rattle.hy_rules.proofs.Growth.{growth_keeps_rows}
+use Rattle.hy_rules.proofs.Growth.{live_grows}
 use Rattle.hy_rules.specs.Serial.{is_entry_at}
-use Rattle.hy_serial.proofs.Snapshots.{IsSnap, all_from, all_join}
+use Rattle.hy_serial.proofs.Snapshots.{IsSnap}
 
 -- the program whose entry stands at a position
 abbrev pub appended_at : ℕ → List Ended → Option Ended
@@ -62,18 +60,13 @@ get_more [] more k x e = absurd (cc)
 get_more (y ∷ xs) more zero x e = e
 get_more (y ∷ xs) more (suc k) x e = get_more xs more k x e
 
-get_within : {X : Type 0} (xs more : List X) (k : ℕ) → k < length xs → slice_get (xs ++ more) k ≡ slice_get xs k
-get_within [] more k lt = absurd (omega (arith, lt))
-get_within (y ∷ xs) more zero lt = refl
-get_within (y ∷ xs) more (suc k) lt = get_within xs more k (omega (arith, lt))
-
 nth_more : (log more : List EntryKind) (pos : ℕ) (x : EntryKind) → nth log pos ≡ Some x → nth (log ++ more) pos ≡ Some x
 nth_more log more zero x e = absurd (cc)
 nth_more log more (suc k) x e = get_more log more k x e
 
 pub nth_within : (log more : List EntryKind) (pos : ℕ) → pos ≤ length log → nth (log ++ more) pos ≡ nth log pos
 nth_within log more zero le = refl
-nth_within log more (suc k) le = get_within log more k (omega (arith, le))
+nth_within log more (suc k) le = slice_get_append_left log more k (omega (arith, le))
 
 pub within_log : (log : List EntryKind) (pos : ℕ) (x : EntryKind) → nth log pos ≡ Some x → pos ≤ length log
 within_log log zero x e = omega arith
@@ -110,13 +103,10 @@ passed_over q (x ∷ xs) ys a = rw a.0 (passed_over q xs ys a.1)
 
 -- ---- a log that grows
 
-pub live_longer : (s : Shape) (log more : List EntryKind) (pos : ℕ) → pos ≤ length log → live s (log ++ more) pos ≡ live s log pos
-live_longer s log more pos le = ap pairs_of (growth_keeps_rows s log more (pos / s.group) (let fits : s.group * (pos / s.group) ≤ pos = mul-div-le pos s.group in omega (arith, fits, le))).rows
-
 own_longer : (script : Workload) (log more : List EntryKind) (e : Ended) (pos : ℕ) → IsLeftByProgram script log e pos → IsLeftByProgram script (log ++ more) e pos
 own_longer script log more e pos h =
     let place : pos ≤ length log = within_log log pos _ h.entry in
-    let same : live script.shape log e.snap ≡ live script.shape (log ++ more) e.snap = sym (live_longer script.shape log more e.snap (omega (arith, h.below, place))) in
+    let same : live script.shape log e.snap ≡ live script.shape (log ++ more) e.snap = sym (live_grows script.shape log more e.snap (omega (arith, h.below, place))) in
     record {
       program = h.program;
       server = h.server;
@@ -153,11 +143,11 @@ back_stays script log start mid front done e ByStop le early h = tt
 pub told_both : (script : Workload) (log more : List EntryKind) (start : ℕ) (front done : List Ended) → start ≤ length log → Told script log start front → Told script (log ++ more) (length log) done → Told script (log ++ more) start (front ++ done)
 told_both script log more start front done le a b =
     let early : (pos : ℕ) → length log < pos → AllByRecursion (λ d. is_entry_at pos d.ending ≡ false) front = λ pos past.
-    all_from (λ d. EndingTold script log start front d d.ending) (λ d. is_entry_at pos d.ending ≡ false) (λ d h. early_entry script log start pos front d d.ending past h) front a.each in
+    all_map (λ d. EndingTold script log start front d d.ending) (λ d. is_entry_at pos d.ending ≡ false) (λ d h. early_entry script log start pos front d d.ending past h) front a.each in
     record {
-      each = all_join (λ e. EndingTold script (log ++ more) start (front ++ done) e e.ending) front done
-          (all_from (λ e. EndingTold script log start front e e.ending) (λ e. EndingTold script (log ++ more) start (front ++ done) e e.ending) (λ e h. front_stays script log more start front done e e.ending h) front a.each)
-          (all_from (λ e. EndingTold script (log ++ more) (length log) done e e.ending) (λ e. EndingTold script (log ++ more) start (front ++ done) e e.ending)
+      each = all_append (λ e. EndingTold script (log ++ more) start (front ++ done) e e.ending) front done
+          (all_map (λ e. EndingTold script log start front e e.ending) (λ e. EndingTold script (log ++ more) start (front ++ done) e e.ending) (λ e h. front_stays script log more start front done e e.ending h) front a.each)
+          (all_map (λ e. EndingTold script (log ++ more) (length log) done e e.ending) (λ e. EndingTold script (log ++ more) start (front ++ done) e e.ending)
           (λ e h. back_stays script (log ++ more) start (length log) front done e e.ending le early h) done b.each);
       all = λ pos i past at. elim (cases_lt (length log) pos) [
         | inl lt ↦ right_some (λ d. is_entry_at pos d.ending) front done (b.all pos i lt at)

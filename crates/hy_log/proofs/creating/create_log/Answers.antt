@@ -1,16 +1,14 @@
-use Rattle.std.proofs.Common.{◌≡◌, ℕ, ◌+◌, List, [], length, Result, Ok, Err, OnOk, sym, ◌∙◌, ap, subst, arith}
+use Rattle.std.proofs.Common.{◌≡◌, ℕ, ◌+◌, List, [], length, sym, ◌∙◌, ap, subst, arith}
+use Rattle.std.proofs.lemmas.Result.{on_ok_weaker}
+use Rattle.hy_base.proofs.ResultLemmas.{any_err}
 use Rattle.hy_disk.specs.Content.{settled}
 use Rattle.hy_disk.proofs.Moments.{joined, weaker}
 use Rattle.hy_formats.specs.LogDevice.{IsFront}
 use Rattle.hy_log.specs.Gates.{IsGuarded, gate_opened}
 use Rattle.hy_log.proofs.Creation.{unborn_kept, creation_kept, born_front, born_closed, header_piece}
 use Rattle.hy_log.proofs.Looking.{cause_then}
-use Rattle.hy_log.proofs.Failing.{none_ok, any_err}
+use Rattle.hy_log.proofs.Failing.{none_ok}
 use Rattle.hy_log.proofs.creating.create_log.Goals as goal
-
-on_ok : {T E : Type 0} {P Q : Type 0} (r : Result T E) → (P → Q) → OnOk r P → OnOk r Q
-on_ok (Ok x) f p = f p
-on_ok (Err e) f p = tt
 
 pub returns-in_err-shut-clause-any_moment : goal.returns-in_err-shut-clause-any_moment
 returns-in_err-shut-clause-any_moment g c told =
@@ -26,7 +24,7 @@ returns-clause-any_moment g c told =
 pub returns-clause-born : goal.returns-clause-born
 returns-clause-born g c told =
     let mid = (g.D.Disk.content c.shut.new.disk).seen in
-    on_ok c.store.result (λ is. let content : g.D.Disk.content c.store.new.disk ≡ settled (gate_opened 0 (header_piece c.args.shape) mid) = is ∙ ap (λ (p : List ℕ). settled (gate_opened 0 p mid)) c.header_behind.ensures in
+    on_ok_weaker c.store.result (λ is. let content : g.D.Disk.content c.store.new.disk ≡ settled (gate_opened 0 (header_piece c.args.shape) mid) = is ∙ ap (λ (p : List ℕ). settled (gate_opened 0 p mid)) c.header_behind.ensures in
     (born_closed c.args.shape mid c.requires.good _ content, subst (λ k. IsFront c.args.shape [] 1 k.seen) (sym content) (born_front c.args.shape mid c.requires.good))) (c.store.ensures.stored told)
 
 pub returns-in_err-shut-clause-room : goal.returns-in_err-shut-clause-room
