@@ -1,5 +1,5 @@
 //! A value with several owners, which contracts see as the value.
-ghost use Rattle.std.specs.Prelude.{◌≡◌, IfOk, replicate};
+ghost use Rattle.std.specs.Prelude.{◌≡◌, IfOk, Ok, replicate};
 
 use std::alloc::{AllocError, Global};
 use std::marker::Model;
@@ -68,4 +68,17 @@ impl<T> Shared<T> {
     {
         &*self.value
     }
+}
+
+/// Both of two, where there are both. A caller then holds no value of many fields where it returns early, which would be dear
+/// to prove.
+pub fn both<A: Drop, B: Drop>(
+    first: Result<A, AllocError>,
+    second: Result<B, AllocError>,
+) -> Result<(A, B), AllocError>
+    ensures { IfOk result (λ p. (first ≡ Ok p.0) × (second ≡ Ok p.1)) }
+{
+    let first = first?;
+    let second = second?;
+    Ok((first, second))
 }

@@ -18,18 +18,19 @@ use Rattle.hy_hub.specs.declared.occurrence.BeginRefusal.TheVariants.{Memory, Ou
 use Rattle.hy_hub.specs.declared.occurrence.EndRefusal.{EndRefusal}
 use Rattle.hy_hub.specs.declared.occurrence.EndRefusal.TheVariants.{Memory as NoMemory, OutOfTurn as NotRunning}
 use Rattle.hy_hub.specs.declared.occurrence.AppendRefusal.{AppendRefusal}
-use Rattle.hy_hub.specs.declared.occurrence.AppendRefusal.TheVariants.{OutOfTurn as NotBegun, Full}
+use Rattle.hy_hub.specs.declared.occurrence.AppendRefusal.TheVariants as refusal
 use Rattle.hy_hub.specs.declared.occurrence.PadRefusal.{PadRefusal}
 use Rattle.hy_hub.specs.declared.occurrence.PadRefusal.TheVariants.{Memory as NoPlace, Even, Stopped as Halting, Device as Failing}
 use Rattle.hy_hub.specs.declared.occurrence.PublishRefusal.{PublishRefusal}
 use Rattle.hy_hub.specs.declared.occurrence.PublishRefusal.TheVariants.{Memory as NoRoom, Stale}
 use Rattle.hy_hub.specs.Calls.{OneTurn, OwnTurn, PadDoes, LookDoes, PublishDoes, BeginDoes, EndDoes, AppendDoes, IsIdle, len_of, board_at}
-use Rattle.hy_clients.specs.declared.answered.End as end
-use Rattle.hy_clients.specs.declared.answered.End.TheVariants.{Reading, EntryAt, FullLog}
+use Rattle.hy_roller.specs.declared.ended.ProgramEnd.{ProgramEnd}
+use Rattle.hy_roller.specs.declared.ended.ProgramEnd.TheVariants.{Reading, EntryAt, Full}
 use Rattle.hy_clients.specs.Passing.{IsRunPass, GoesOn}
 use Rattle.hy_clients.specs.Serving.{Begins, Takes, EndsReading}
 use Rattle.hy_clients.proofs.Passes.{run_on}
-use Rattle.hy_clients.proofs.Turning.{as_own, goes_quiet, goes_own, before_is}
+use Rattle.hy_hub.proofs.Holding.{own_of_one}
+use Rattle.hy_clients.proofs.Turning.{goes_quiet, goes_own, before_is}
 use Rattle.hy_clients.proofs.Living.{begun_live}
 
 same : (client : ℕ) → (client == client) ≡ true
@@ -76,15 +77,15 @@ end_is_quiet client (Err (NotRunning who phase)) is turn parts = goes_quiet turn
 begins : {lock : Lock} {script : Workload} {all : ℕ} {old new : Known Occurrence} (client : ℕ) (begun : Begun) → IsRunPass lock script old → IsRunPass lock script new → OneTurn all old new (BeginDoes client (Ok begun)) → new.parts ≡ old.parts → Begins script client old new begun
 begins {lock} {script} {all} {old} {new} client begun run run' turn parts = record {
   turn = (length turn.before, Happened (Begin client) []);
-  next = goes_own (as_own turn) client parts (Happened (Begin client) []) turn.done.0 (same client);
+  next = goes_own (own_of_one turn) client parts (Happened (Begin client) []) turn.done.0 (same client);
   begins = refl;
-  snap = turn.done.3 ∙ sym (ap (board_at client) (before_is (as_own turn)));
+  snap = turn.done.3 ∙ sym (ap (board_at client) (before_is (own_of_one turn)));
   rows = begun_live script old.seen turn.before new.seen client begun.snap begun.roller run.told turn.grown (turn.seen ∙ ap (λ (l : List Occurrence). turn.before ++ l) turn.done.0) run'.told run'.setting_is turn.done.3 turn.done.4;
 }
 
 pub begin_tells : {lock : Lock} {script : Workload} {all : ℕ} {old new : Known Occurrence} (client : ℕ) (answer : Result Begun BeginRefusal) → IsRunPass lock script old → IsIdle lock new → OneTurn all old new (BeginDoes client answer) → new.parts ≡ old.parts
     → IfOk answer (Begins script client old new)
-begin_tells client (Ok begun) run idle turn parts = begins client begun run (run_on run idle (as_own turn)) turn parts
+begin_tells client (Ok begun) run idle turn parts = begins client begun run (run_on run idle (own_of_one turn)) turn parts
 begin_tells client (Err refusal) run idle turn parts = tt
 
 pub ends_reading : {old new : Known Occurrence} (client : ℕ) (answer : Result (Unit {0}) EndRefusal) → IsOk answer → OwnTurn old new (EndDoes client answer) → new.parts ≡ old.parts → EndsReading client old new
@@ -104,7 +105,7 @@ module _ {old new : Known Occurrence} (client : ℕ) (entry : EntryKind) (parts 
     ends_as = ap EntryAt (turn.done.4 ∙ ap (λ (l : List Occurrence). len_of l + 1) (sym (before_is turn)));
   }
 
-  refuses : OwnTurn old new (AppendDoes client entry (Err Full)) → Takes client entry old new FullLog
+  refuses : OwnTurn old new (AppendDoes client entry (Err refusal.Full)) → Takes client entry old new Full
   refuses turn = record {
     turn = (length turn.before, Happened (Refuse client) []);
     next = goes_own turn client parts (Happened (Refuse client) []) turn.done.0 (same client);
@@ -113,14 +114,14 @@ module _ {old new : Known Occurrence} (client : ℕ) (entry : EntryKind) (parts 
   }
 
   -- what is told of an append, by its answer
-  pub takes : {E : Type 0} (answer : Result ℕ AppendRefusal) (told : Result (Option end.End) E) (how : end.End) → OwnTurn old new (AppendDoes client entry answer)
-      → ((at : ℕ) → told ≡ Ok (Some (EntryAt at)) → answer ≡ Ok at) → (told ≡ Ok (Some FullLog) → answer ≡ Err Full) → told ≢ Ok (Some Reading) → told ≡ Ok (Some how) → Takes client entry old new how
+  pub takes : {E : Type 0} (answer : Result ℕ AppendRefusal) (told : Result (Option ProgramEnd) E) (how : ProgramEnd) → OwnTurn old new (AppendDoes client entry answer)
+      → ((at : ℕ) → told ≡ Ok (Some (EntryAt at)) → answer ≡ Ok at) → (told ≡ Ok (Some Full) → answer ≡ Err refusal.Full) → told ≢ Ok (Some Reading) → told ≡ Ok (Some how) → Takes client entry old new how
   takes answer told (EntryAt at) turn entered full read e = appends at (subst (λ (a : Result ℕ AppendRefusal). OwnTurn old new (AppendDoes client entry a)) (entered at e) turn)
-  takes answer told FullLog turn entered full read e = refuses (subst (λ (a : Result ℕ AppendRefusal). OwnTurn old new (AppendDoes client entry a)) (full e) turn)
+  takes answer told Full turn entered full read e = refuses (subst (λ (a : Result ℕ AppendRefusal). OwnTurn old new (AppendDoes client entry a)) (full e) turn)
   takes answer told Reading turn entered full read e = absurd (read e)
 
   -- the client was out of turn
-  pub append_is_quiet : (answer : Result ℕ AppendRefusal) → (who : ℕ) × (phase : Phase) × (answer ≡ Err (NotBegun who phase)) → OwnTurn old new (AppendDoes client entry answer) → GoesOn client old new []
+  pub append_is_quiet : (answer : Result ℕ AppendRefusal) → (who : ℕ) × (phase : Phase) × (answer ≡ Err (refusal.OutOfTurn who phase)) → OwnTurn old new (AppendDoes client entry answer) → GoesOn client old new []
   append_is_quiet answer out turn =
-      let here : OwnTurn old new (AppendDoes client entry (Err (NotBegun out.0 out.1))) = subst (λ (a : Result ℕ AppendRefusal). OwnTurn old new (AppendDoes client entry a)) out.2 turn in
+      let here : OwnTurn old new (AppendDoes client entry (Err (refusal.OutOfTurn out.0 out.1))) = subst (λ (a : Result ℕ AppendRefusal). OwnTurn old new (AppendDoes client entry a)) out.2 turn in
       goes_quiet here client parts here.done.0 (λ k. refl)

@@ -24,8 +24,8 @@ use Rattle.hy_hub.specs.Hub.{IsHubHistory}
 use Rattle.hy_hub.specs.Calls.{len_of}
 use Rattle.hy_hub.proofs.Later.{not_empty}
 use Rattle.hy_clients.specs.declared.answered.Answered.{Answered}
-use Rattle.hy_clients.specs.declared.answered.End as end
-use Rattle.hy_clients.specs.declared.answered.End.TheVariants.{Reading}
+use Rattle.hy_roller.specs.declared.ended.ProgramEnd.{ProgramEnd}
+use Rattle.hy_roller.specs.declared.ended.ProgramEnd.TheVariants.{Reading}
 use Rattle.hy_clients.specs.Passing.{IsRunPass, IsNextTurn, OpensStanding}
 use Rattle.hy_clients.specs.Programs.{EndsProgram, EndsAs, before}
 use Rattle.hy_clients.specs.Serving.{IsServedClient, AreLive, TakesEntry, Takes, EndsReading, IsOwnEnd, EndsBy, EndsServed}
@@ -36,13 +36,13 @@ use Rattle.hy_clients.proofs.Openings.{stood_before}
 use Rattle.hy_clients.proofs.Passes.{entry_is_own}
 
 -- a turn by which a program that left this ends, and how that is told
-record EndsFor (script : Workload) (client snap : ℕ) (effects : Effects) (old new : Known Occurrence) (told : end.End) : Type 0 where
+record EndsFor (script : Workload) (client snap : ℕ) (effects : Effects) (old new : Known Occurrence) (told : ProgramEnd) : Type 0 where
   pub turn : ℕ × Occurrence
   pub next : IsNextTurn client old new turn
   pub ends : EndsProgram script client snap (Some effects) turn.1
   pub ends_as : EndsAs (len_of (before new.seen turn)) turn.1 told
 
-module _ (script : Workload) (client server snap : ℕ) (effects : Effects) (old new : Known Occurrence) (told : end.End) (home : home_server (script_setting script) client ≡ server) where
+module _ (script : Workload) (client server snap : ℕ) (effects : Effects) (old new : Known Occurrence) (told : ProgramEnd) (home : home_server (script_setting script) client ≡ server) where
   read : wrote effects ≡ false → (told ≡ Reading) × EndsReading client old new → EndsFor script client snap effects old new told
   read none ends = record {
     turn = ends.1.turn;

@@ -7,7 +7,7 @@ use Rattle.hy_base.specs.declared.workload.Session.{Session}
 use Rattle.hy_base.specs.Lists.{nth}
 use Rattle.hy_base.specs.Script.{Workload}
 use Rattle.hy_rules.specs.Moves.{State, after, is_stop}
-use Rattle.hy_rules.specs.Runs.{Ended, Ending, ByReading, ByEntryAt, ByFullLog, setting_of as script_setting, begun_snap, ended_by}
+use Rattle.hy_rules.specs.Runs.{Ended, Ending, ByReading, ByEntryAt, ByFull, setting_of as script_setting, begun_snap, ended_by}
 use Rattle.hy_hub.specs.declared.occurrence.Occurrence.{Occurrence}
 use Rattle.hy_hub.specs.declared.occurrence.Occurrence.TheVariants.{Opened, Happened, Halted, Lifted, Landed}
 use Rattle.hy_hub.specs.Turns.{is_event_of}
@@ -39,7 +39,7 @@ pub others_end : (s : State) (event : Event) (c : ℕ) → s.armed ≡ None → 
 others_end s (Begin d) c calm n other = refl
 others_end s (Append d) c calm n other = rw calm (end_apart s d c (ByEntryAt (length s.log + 1)) (nth s.sessions d) other)
 others_end s (End d) c calm n other = end_apart s d c ByReading (nth s.sessions d) other
-others_end s (Refuse d) c calm n other = end_apart s d c ByFullLog (nth s.sessions d) other
+others_end s (Refuse d) c calm n other = end_apart s d c ByFull (nth s.sessions d) other
 others_end s (Pad server) c calm n other = rw calm refl
 others_end s (Publish server upto) c calm n other = refl
 others_end s (Stop call pattern) c calm n other = absurd (cc n)
@@ -48,7 +48,7 @@ pub own_ends : (s : State) (event : Event) (c : ℕ) → s.armed ≡ None → is
 own_ends s (Begin d) c calm own = refl
 own_ends s (Append d) c calm own = rw calm (end_own s d c (ByEntryAt (length s.log + 1)) (nth s.sessions d) own)
 own_ends s (End d) c calm own = end_own s d c ByReading (nth s.sessions d) own
-own_ends s (Refuse d) c calm own = end_own s d c ByFullLog (nth s.sessions d) own
+own_ends s (Refuse d) c calm own = end_own s d c ByFull (nth s.sessions d) own
 own_ends s (Pad server) c calm own = absurd (cc own)
 own_ends s (Publish server upto) c calm own = refl
 own_ends s (Stop call pattern) c calm own = refl

@@ -14,13 +14,14 @@ use Rattle.hy_base.specs.Lists.{nth}
 use Rattle.hy_base.specs.Script.{Workload}
 use Rattle.hy_rules.specs.Exec.{Effects, intention}
 use Rattle.hy_rules.specs.Moves.{State, Moves, after, home_server, is_begun, client_passes, surviving, appended, at_next_program}
-use Rattle.hy_rules.specs.Runs.{Ended, Ending, ByReading, ByEntryAt, ByFullLog, setting_of as script_setting, execution, snap_of, pending, leaves_write, begun_snap, own_entry, added as entries, ended, ended_by_append}
+use Rattle.hy_rules.specs.Runs.{Ended, Ending, ByReading, ByEntryAt, ByFull, setting_of as script_setting, execution, snap_of, pending, leaves_write, begun_snap, own_entry, added as entries, ended, ended_by_append}
 use Rattle.hy_hub.specs.declared.occurrence.Occurrence.{Occurrence}
 use Rattle.hy_hub.specs.declared.occurrence.Occurrence.TheVariants.{Happened}
 use Rattle.hy_hub.specs.Turns.{is_event_of}
 use Rattle.hy_base.proofs.NthLemmas.{left_of}
 use Rattle.hy_clients.specs.declared.answered.Answered.{Answered}
-use Rattle.hy_clients.specs.Programs.{ending_of_end, effects_on, has_left_entry, own_entry_of}
+use Rattle.hy_roller.specs.Telling.{ending_of}
+use Rattle.hy_clients.specs.Programs.{effects_on, has_left_entry, own_entry_of}
 use Rattle.hy_clients.proofs.Sessions.{nth_changed, is_running, same_number}
 use Rattle.hy_clients.proofs.Steady.{IsSteadyState}
 use Rattle.hy_clients.proofs.Progress.{StateIsAt, ProgramsGo, Works, IsTurn, closing, close_turn, begin_turn}
@@ -79,7 +80,7 @@ append_turn script c list k s added x snap turns told here steady at runs within
     let there : nth (after (script_setting script) s (Append c) added).sessions c ≡ Some new = rw (steady.calm) (nth_changed (appended added (length s.log)) s.sessions c x at) in
     close_turn script c list s (Append c) added x snap (Happened (Append c) added) turns told new cl (wrote, adds) there (appended_next added (length s.log) x) (appended_idle added (length s.log) x) within
     (λ t q e. ap (λ (a : Option ArmedStop). ended_by_append a s c) steady.calm ∙ (ended_here script s c x snap at runs (ByEntryAt (length s.log + 1))
-    ∙ (λ i. record { client = c; number = x.next; snap = sym q i; ending = ending_of_end (sym e i) } ∷ [])))
+    ∙ (λ i. record { client = c; number = x.next; snap = sym q i; ending = ending_of (sym e i) } ∷ [])))
 
 end_turn : (script : Workload) (c : ℕ) (list : List Occurrence) (k : ℕ) (s : State) (added : List EntryKind) (x : Session) (snap : ℕ) (turns : List (ℕ × Occurrence)) (told : List Answered) → StateIsAt script list k s → added ≡ []
     → nth s.sessions c ≡ Some x → x.phase ≡ Begun snap → snap ≤ length s.log → Works script c x.next list snap ((k, Happened (End c) added) ∷ turns) told → IsTurn script c list s (End c) added x turns told
@@ -87,7 +88,7 @@ end_turn script c list k s added x snap turns told here none at runs within work
     let cl = closing script c x.next s snap list k (Happened (End c) added) turns told here works in
     let read : leaves_write script s c ≡ false = wrote_is script s c x snap at runs ∙ cl.ends.1 in
     close_turn script c list s (End c) added x snap (Happened (End c) added) turns told (at_next_program x) cl (ap not read, none) (nth_changed at_next_program s.sessions c x at) refl refl within
-    (λ t q e. ended_here script s c x snap at runs ByReading ∙ (λ i. record { client = c; number = x.next; snap = sym q i; ending = ending_of_end (sym e i) } ∷ []))
+    (λ t q e. ended_here script s c x snap at runs ByReading ∙ (λ i. record { client = c; number = x.next; snap = sym q i; ending = ending_of (sym e i) } ∷ []))
 
 refuse_turn : (script : Workload) (c : ℕ) (list : List Occurrence) (k : ℕ) (s : State) (added : List EntryKind) (x : Session) (snap : ℕ) (turns : List (ℕ × Occurrence)) (told : List Answered) → StateIsAt script list k s → added ≡ []
     → nth s.sessions c ≡ Some x → x.phase ≡ Begun snap → snap ≤ length s.log → Works script c x.next list snap ((k, Happened (Refuse c) added) ∷ turns) told → IsTurn script c list s (Refuse c) added x turns told
@@ -95,7 +96,7 @@ refuse_turn script c list k s added x snap turns told here none at runs within w
     let cl = closing script c x.next s snap list k (Happened (Refuse c) added) turns told here works in
     let wrote : leaves_write script s c ≡ true = wrote_is script s c x snap at runs ∙ cl.ends.1 in
     close_turn script c list s (Refuse c) added x snap (Happened (Refuse c) added) turns told (at_next_program x) cl (wrote, none) (nth_changed at_next_program s.sessions c x at) refl refl within
-    (λ t q e. ended_here script s c x snap at runs ByFullLog ∙ (λ i. record { client = c; number = x.next; snap = sym q i; ending = ending_of_end (sym e i) } ∷ []))
+    (λ t q e. ended_here script s c x snap at runs ByFull ∙ (λ i. record { client = c; number = x.next; snap = sym q i; ending = ending_of (sym e i) } ∷ []))
 
 -- ---- any turn of the client
 

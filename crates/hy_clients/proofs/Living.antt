@@ -14,8 +14,8 @@ use Rattle.hy_rules.specs.Moves.{Setting, State, board_of, home_server}
 use Rattle.hy_rolling.specs.Rolling.{Roll, rolled_upto, Stands}
 use Rattle.hy_rules.specs.Runs.{setting_of as script_setting}
 use Rattle.hy_rules.specs.Validation.{live, rows}
-use Rattle.hy_pipe.specs.RollerLaws.{IsOfLonger}
-use Rattle.hy_pipe.proofs.Standing.{growth_keeps_standing}
+use Rattle.hy_roller.specs.RollerLaws.{IsOfLonger}
+use Rattle.hy_roller.proofs.Standing.{growth_keeps_standing}
 use Rattle.hy_hub.specs.declared.occurrence.Occurrence.{Occurrence}
 use Rattle.hy_hub.specs.declared.occurrence.Occurrence.TheVariants.{Opened, Happened, Halted, Lifted, Landed}
 use Rattle.hy_hub.specs.Origin.{Origin}

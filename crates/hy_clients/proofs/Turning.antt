@@ -8,7 +8,7 @@ use mathlib.Core.List.{IsPrefix}
 use Rattle.hy_hist.specs.Passes.{Known, made}
 use Rattle.hy_hist.proofs.Lists.{prefix_trans, prefix_length}
 use Rattle.hy_hub.specs.declared.occurrence.Occurrence.{Occurrence}
-use Rattle.hy_hub.specs.Calls.{OneTurn, OwnTurn, placed_at}
+use Rattle.hy_hub.specs.Calls.{OwnTurn, placed_at}
 use Rattle.hy_hub.specs.Turns.{is_occurrence_of}
 use Rattle.hy_clients.specs.Passing.{own_turns, GoesOn, IsNextTurn}
 
@@ -48,21 +48,6 @@ next_after client a b c turn g next = record {
 }
 
 -- ---- a call of the hub
-
--- a turn is a call of several holds, behind whose own item nothing stands
-abbrev pub as_own : {all : ℕ} {old new : Known Occurrence} {does : List Occurrence → List Occurrence → Type 0} → OneTurn all old new does → OwnTurn old new does
-as_own {all} {old} {new} {does} turn = record {
-  before = turn.before;
-  own = turn.added;
-  after = [];
-  grown = turn.grown;
-  seen = turn.seen ∙ ap (λ l. turn.before ++ l) (sym (append-nil turn.added));
-  told = turn.told;
-  setting = turn.setting;
-  few = turn.few;
-  makes = turn.makes;
-  done = turn.done;
-}
 
 -- none of these occurrences is the client's, wherever they stand
 abbrev pub AreOthers : ℕ → List Occurrence → Type 0

@@ -18,7 +18,8 @@ use Rattle.hy_hub.specs.Calls.{events_in_list}
 use Rattle.hy_hub.specs.Laws.{EventsAreTasks}
 use Rattle.hy_clients.specs.declared.answered.Answered.{Answered}
 use Rattle.hy_clients.specs.Finished.{LeadTo}
-use Rattle.hy_clients.specs.Programs.{AreServed, ending_of_end}
+use Rattle.hy_roller.specs.Telling.{ending_of}
+use Rattle.hy_clients.specs.Programs.{AreServed}
 use Rattle.hy_clients.specs.Passing.{OpensStanding, own_turns}
 
 -- A pass served the client with this number: all its programs, one after another. The list goes on from what the pass had seen.
@@ -52,7 +53,7 @@ ServedListsAreRuns = (script : Workload) (list : List Occurrence) (told : List (
 
 -- how a program that a client was told of has ended
 abbrev pub ended_program : ℕ → ℕ → Answered → Ended
-ended_program client number t = record { client = client; number = number; snap = t.snap; ending = ending_of_end t.end }
+ended_program client number t = record { client = client; number = number; snap = t.snap; ending = ending_of t.end }
 
 -- the reply to a program, by these verdicts
 abbrev pub reply_by : List (Option Verdict) → Answered → Option Reply

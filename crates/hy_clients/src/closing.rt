@@ -13,7 +13,7 @@ use crate::serving::{Cut, completed, published};
 use hy_disk::Disk;
 use hy_hist::Pass;
 use hy_hub::{Backlog, Contents};
-use hy_pipe::Gate;
+use hy_pipe::{Gate, roll};
 use std::sync::Wait;
 use std::thread::Threads;
 
@@ -42,9 +42,14 @@ fn publish_look<D: Disk, R: Threads + Wait + Sync, G: Gate + Sync>(
     if entries.is_empty() {
         return Ok(());
     }
-    let rolled = look
-        .roller
-        .roll(rt, service.alloc, entries, service.threads, service.gate)?;
+    let rolled = roll(
+        &look.roller,
+        rt,
+        service.alloc,
+        entries,
+        service.threads,
+        service.gate,
+    )?;
     published(service.hub.publish(rt, pass, server, rolled))
 }
 

@@ -16,6 +16,6 @@ mod service;
 mod serving;
 mod task;
 
-pub use answered::{Answered, End};
+pub use answered::Answered;
 pub use clients::{Broken, Cause, Run, run_clients};
 pub use laws::{replies_are_told, served_lists_are_runs};

@@ -13,7 +13,7 @@ ghost use Rattle.hy_clients.specs.Passing.{GoesOn, own_turns};
 ghost use Rattle.hy_clients.specs.Programs.{AreServed};
 ghost use Rattle.hy_clients.specs.Serving.{AreLive, Begins, EndsServed, EndsBy, EndsReading, IsServedClient, IsOwnEnd, Serves, Takes};
 
-use crate::answered::{Answered, End};
+use crate::answered::Answered;
 use crate::service::Service;
 use hy_base::{Client, Entry, Pos, Program, Script};
 use hy_disk::Disk;
@@ -22,7 +22,8 @@ use hy_hist::Pass;
 use hy_hub::{
     AppendRefusal, Backlog, BeginRefusal, Begun, Contents, EndRefusal, PadRefusal, PublishRefusal,
 };
-use hy_pipe::{Gate, Roller};
+use hy_pipe::{Gate, roll};
+use hy_roller::{ProgramEnd, Roller};
 use std::alloc::{AllocError, AllocFailed};
 use std::sync::Wait;
 use std::thread::Threads;
@@ -177,9 +178,14 @@ fn roll_look<D: Disk, R: Threads + Sync, G: Gate + Sync>(
         return Ok(None);
     }
     let entries = look.entries.as_slice();
-    let rolled = look
-        .roller
-        .roll(rt, service.alloc, entries, service.threads, service.gate)?;
+    let rolled = roll(
+        &look.roller,
+        rt,
+        service.alloc,
+        entries,
+        service.threads,
+        service.gate,
+    )?;
     Ok(Some(rolled))
 }
 
@@ -293,12 +299,12 @@ fn begin_program<D: Disk, R: Threads + Wait + Sync, G: Gate + Sync>(
 }
 
 // How a program that only read has ended, by the answer to its end. None where the client is out of turn.
-fn ended(answer: Result<(), EndRefusal>) -> Result<Option<End>, Cut>
-    ensures ended { (end : _) → result ≡ Ok (Some end) → (end ≡ End.Reading) × IsOk answer }
+fn ended(answer: Result<(), EndRefusal>) -> Result<Option<ProgramEnd>, Cut>
+    ensures ended { (end : _) → result ≡ Ok (Some end) → (end ≡ ProgramEnd.Reading) × IsOk answer }
     ensures not { result ≡ Ok None → IsErr answer }
 {
     match answer {
-        Ok(()) => Ok(Some(End::Reading)),
+        Ok(()) => Ok(Some(ProgramEnd::Reading)),
         Err(EndRefusal::OutOfTurn { .. }) => Ok(None),
         Err(EndRefusal::Memory) => Err(Cut),
     }
@@ -310,27 +316,27 @@ fn end_reading<D: Disk, R: Wait, G>(
     service: &Service<'_, D, G>,
     pass: &mut Pass<Contents<D>>,
     client: u8,
-) -> Result<Option<End>, Cut>
+) -> Result<Option<ProgramEnd>, Cut>
     requires pass { IsPassOf service.now pass.old }
     requires client { IsClientOf service.now client }
     ensures pass { IsPassOf service.now pass.new }
     ensures parts { pass.new.parts ≡ pass.old.parts }
-    ensures ended { (end : _) → result ≡ Ok (Some end) → (end ≡ End.Reading) × EndsReading client pass.old pass.new }
+    ensures ended { (end : _) → result ≡ Ok (Some end) → (end ≡ ProgramEnd.Reading) × EndsReading client pass.old pass.new }
     ensures not { result ≡ Ok None → GoesOn client pass.old pass.new [] }
 {
     ended(service.hub.end(rt, pass, client))
 }
 
 // How a program that wrote has ended, by the answer to its append. None where the client is out of turn.
-fn appended(answer: Result<Pos, AppendRefusal>) -> Result<Option<End>, Cut>
-    ensures entered { (pos : _) → result ≡ Ok (Some (End.EntryAt pos)) → answer ≡ Ok pos }
-    ensures full { result ≡ Ok (Some End.FullLog) → answer ≡ Err AppendRefusal.Full }
-    ensures read { result ≢ Ok (Some End.Reading) }
+fn appended(answer: Result<Pos, AppendRefusal>) -> Result<Option<ProgramEnd>, Cut>
+    ensures entered { (pos : _) → result ≡ Ok (Some (ProgramEnd.EntryAt pos)) → answer ≡ Ok pos }
+    ensures full { result ≡ Ok (Some ProgramEnd.Full) → answer ≡ Err AppendRefusal.Full }
+    ensures read { result ≢ Ok (Some ProgramEnd.Reading) }
     ensures not { result ≡ Ok None → (who : _) × (phase : _) × (answer ≡ Err (AppendRefusal.OutOfTurn who phase)) }
 {
     match answer {
-        Ok(pos) => Ok(Some(End::EntryAt { pos })),
-        Err(AppendRefusal::Full) => Ok(Some(End::FullLog)),
+        Ok(pos) => Ok(Some(ProgramEnd::EntryAt { pos })),
+        Err(AppendRefusal::Full) => Ok(Some(ProgramEnd::Full)),
         Err(AppendRefusal::OutOfTurn { .. }) => Ok(None),
         Err(AppendRefusal::Memory) => Err(Cut),
         Err(AppendRefusal::Stopped { .. }) => Err(Cut),
@@ -345,7 +351,7 @@ fn append_entry<D: Disk, R: Wait, G>(
     pass: &mut Pass<Contents<D>>,
     client: u8,
     entry: Entry,
-) -> Result<Option<End>, Cut>
+) -> Result<Option<ProgramEnd>, Cut>
     requires pass { IsPassOf service.now pass.old }
     requires client { IsClientOf service.now client }
     requires own { IsEntryOf client pass.old.seen entry }
@@ -364,7 +370,7 @@ fn end_program<D: Disk, R: Wait, G>(
     pass: &mut Pass<Contents<D>>,
     client: u8,
     finished: Finished,
-) -> Result<Option<End>, Cut>
+) -> Result<Option<ProgramEnd>, Cut>
     requires pass { IsPassOf service.now pass.old }
     requires client { IsClientOf service.now client }
     requires own { IsOwnEnd client pass.old.seen finished }

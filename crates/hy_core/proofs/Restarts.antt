@@ -25,7 +25,7 @@ use Rattle.hy_rules.specs.Runs.{Ended, ByStop, ByEntryAt, added, own_entry, ende
 use Rattle.hy_core.specs.declared.running.Running.{Running}
 use Rattle.hy_core.specs.declared.parts.ClientState.{ClientState}
 use Rattle.hy_core.specs.declared.parts.EndedProgram.{EndedProgram}
-use Rattle.hy_core.specs.declared.parts.ProgramEnd.TheVariants.{EntryAt, Stopped}
+use Rattle.hy_roller.specs.declared.ended.ProgramEnd.TheVariants.{EntryAt}
 use Rattle.hy_core.specs.Parts.{Holding, ClientStateFits, IsHolding, IsOnDevice, BegunClientState, StepsTo, leaving, told_in_course, IsClientState, IsStepAnswered, AreClientStates, AreRestarted, abandoned_client_state, abandoned_told, all_abandoned, departed, kept_by, pages_with, state_in_course, done_of, ended_in_course}
 use Rattle.hy_core.specs.Replies.{HasFewPrograms}
 use Rattle.hy_core.proofs.Leaving.{left_client_state, all_push, still_whole, begun_of, told_is, done_is, ended_is, sessions_are}
@@ -87,7 +87,7 @@ lost_one s kept number x Idle other phase here = rw phase refl
 lost_one s kept number x (Begun snap) other phase here =
     let at : begun_snap s number ≡ snap = (λ i. unwrap_or (option_and_then (λ (y : Session). snap_of y.phase) (here i)) 0) ∙ ap (λ p. unwrap_or (snap_of p) 0) phase in
     (λ i. option_to_list (if is_begun (phase i) && not (other i) then Some (record { client = number; number = x.session.next; snap = at i; ending = ByStop }) else None))
-    ∙ sym (λ i. map ended_in_course (option_to_list (option_map (λ k. let t : EndedProgram = record { client = number; number = x.session.next; snap = k; end = Stopped; answers = [] } in t) (snap_of (phase i)))))
+    ∙ sym (λ i. map ended_in_course (option_to_list (option_map (λ k. let t : EndedProgram = record { client = number; number = x.session.next; snap = k; end = None; answers = [] } in t) (snap_of (phase i)))))
 
 filter_one : {X Y : Type 0} (f : X → Option Y) (x : X) (xs : List X) → filter_map f (x ∷ xs) ≡ option_to_list (f x) ++ filter_map f xs
 filter_one f x xs = by_option (f x) refl
@@ -211,7 +211,7 @@ is_kept_one : (s : State) (kept number : ℕ) (x y : ClientState) → (number ==
 is_kept_one s kept number x y same idle =
     (λ i. option_to_list (if is_begun x.session.phase && not (same i) then Some (record { client = number; number = x.session.next; snap = begun_snap s number; ending = ByStop }) else None))
     ∙ (never (is_begun x.session.phase) (record { client = number; number = x.session.next; snap = begun_snap s number; ending = ByStop })
-    ∙ sym (λ i. map ended_in_course (option_to_list (option_map (λ k. let t : EndedProgram = record { client = number; number = y.session.next; snap = k; end = Stopped; answers = [] } in t) (snap_of (idle i))))))
+    ∙ sym (λ i. map ended_in_course (option_to_list (option_map (λ k. let t : EndedProgram = record { client = number; number = y.session.next; snap = k; end = None; answers = [] } in t) (snap_of (idle i))))))
   where
     never : (b : Bool) (e : Ended) → option_to_list (if b && false then Some e else None) ≡ []
     never true e = refl
@@ -281,7 +281,7 @@ append_kept script h client pos snap x run e stop rs script_is is armed keeps at
       boards = restart.boards;
       client_states = abandoned_client_states script log 1 script.clients xs client_states;
       told = all_append (IsStepAnswered script log) (h.told ++ t ∷ []) (all_abandoned 1 xs)
-          (told_grow script h.log (e ∷ []) (h.told ++ t ∷ []) (all_push (IsStepAnswered script h.log) h.told t is.told (told_is script h client snap x run (EntryAt pos) tt is b)))
+          (told_grow script h.log (e ∷ []) (h.told ++ t ∷ []) (all_push (IsStepAnswered script h.log) h.told t is.told (told_is script h client snap x run (EntryAt pos) is b)))
           (told_all script log 1 script.clients xs client_states);
     } in
     let steps : StepsTo script h (record { log = log; pages = pages_with (Some stop) 1 e h.pages; rollers = rs; client_states = map abandoned_client_state xs; told = (h.told ++ t ∷ []) ++ all_abandoned 1 xs; armed = None }) (Append client) = record {

@@ -18,7 +18,7 @@ use Rattle.hy_rules.specs.Exec.{Effects, exec, intention}
 use Rattle.hy_rolling.specs.Rolling.{Roll, rolled_upto, Stands}
 use Rattle.hy_base.specs.Shape.{is_within, whole_groups}
 use Rattle.hy_rules.specs.Moves.{State, surviving, client_passes, is_begun, fresh_session, after}
-use Rattle.hy_rules.specs.Runs.{snap_of, Ending, ByReading, ByEntryAt, ByFullLog, ByStop, Ended, answers_to, setting_of, leaves_write, added, ended_by, is_done}
+use Rattle.hy_rules.specs.Runs.{snap_of, Ending, ByReading, ByEntryAt, ByFull, ByStop, Ended, answers_to, setting_of, leaves_write, added, ended_by, is_done}
 use Rattle.hy_formats.specs.EntryFormat.{spelling}
 use Rattle.hy_memlog.specs.Pages.{Pages, IsStop, with_body, broken_log}
 use Rattle.hy_exec.specs.Running.{notes_write}
@@ -26,8 +26,9 @@ use Rattle.hy_core.specs.declared.running.Running.{Running}
 use Rattle.hy_core.specs.declared.parts.Parts.{Parts}
 use Rattle.hy_core.specs.declared.parts.ClientState.{ClientState}
 use Rattle.hy_core.specs.declared.parts.EndedProgram.{EndedProgram}
-use Rattle.hy_core.specs.declared.parts.ProgramEnd.{ProgramEnd}
-use Rattle.hy_core.specs.declared.parts.ProgramEnd.TheVariants.{Reading, EntryAt, FullLog, Stopped}
+use Rattle.hy_roller.specs.declared.ended.ProgramEnd.{ProgramEnd}
+use Rattle.hy_roller.specs.declared.ended.ProgramEnd.TheVariants.{EntryAt}
+use Rattle.hy_roller.specs.Telling.{ending_of}
 use Rattle.hy_core.specs.Course.{Course, IsReached}
 
 -- what the core keeps
@@ -45,11 +46,10 @@ log_held p = record { log = p.log.items; pages = p.pages; rollers = p.rollers.it
 abbrev pub state_in_course : Holding → State
 state_in_course h = record { log = h.log; boards = map rolled_upto h.rollers; sessions = map (λ x. x.session) h.client_states; armed = h.armed }
 
-abbrev pub ending_in_course : ProgramEnd → Ending
-ending_in_course Reading = ByReading
-ending_in_course (EntryAt pos) = ByEntryAt pos
-ending_in_course FullLog = ByFullLog
-ending_in_course Stopped = ByStop
+-- how a program ended, or none where a stop ended it
+abbrev pub ending_in_course : Option ProgramEnd → Ending
+ending_in_course None = ByStop
+ending_in_course (Some end) = ending_of end
 
 abbrev pub ended_in_course : EndedProgram → Ended
 ended_in_course t = record { client = t.client; number = t.number; snap = t.snap; ending = ending_in_course t.end }
@@ -162,7 +162,7 @@ LeavesEntry h client = (x : ClientState) (run : Running) → nth h.client_states
 
 -- what is told of a begun program that ends so
 abbrev pub told_in_course : ℕ → ℕ → ClientState → Running → ProgramEnd → EndedProgram
-told_in_course client snap x run end = record { client = client; number = x.session.next; snap = snap; end = end; answers = run.answers }
+told_in_course client snap x run end = record { client = client; number = x.session.next; snap = snap; end = Some end; answers = run.answers }
 
 -- a begun client's program ends: it is told, and the client's client_state is at the next program
 abbrev pub finishing : Holding → ℕ → ℕ → ClientState → Running → ProgramEnd → Holding
@@ -274,7 +274,7 @@ abandoned_client_state x = if is_begun x.session.phase then departed x.session.n
 
 -- what is told of it
 abbrev pub abandoned_told : ℕ → ClientState → List EndedProgram
-abandoned_told client x = option_to_list (option_map (λ snap. record { client = client; number = x.session.next; snap = snap; end = Stopped; answers = [] }) (snap_of x.session.phase))
+abandoned_told client x = option_to_list (option_map (λ snap. record { client = client; number = x.session.next; snap = snap; end = None; answers = [] }) (snap_of x.session.phase))
 
 -- of these clients, the first of which has this number
 abbrev pub all_abandoned : ℕ → List ClientState → List EndedProgram

@@ -8,10 +8,11 @@ ghost use Rattle.hy_rules.specs.Moves.{is_kept};
 ghost use Rattle.hy_memlog.specs.Pages.{IsStop};
 ghost use Rattle.hy_core.specs.Parts.{IsHolding, AreRestarted, HasPlaces, ClientStateFits, HasRestarted, abandoned_client_state, abandoned_told, kept_by, struck, broken, log_held};
 
-use crate::parts::{ClientState, EndedProgram, Parts, ProgramEnd, roller_of};
+use crate::parts::{ClientState, EndedProgram, Parts, roller_of};
 use hy_base::{Answers, ArmedStop, Entry, Phase, Pos, Script, Session, Shape, Shared, share_all};
 use hy_codec::encode;
-use hy_pipe::{Gate, Roller};
+use hy_pipe::{Gate, roll};
+use hy_roller::Roller;
 use std::alloc::{AllocError, Global};
 use std::thread::Threads;
 
@@ -85,7 +86,14 @@ fn restarted<R: Threads + Sync, G: Gate + Sync>(
     let from = roller.at();
     let entries = shares_with(alloc, past(&core.log, from), entry, stop)?;
     let upto = whole(shape, from + entries.len() as Pos);
-    let rolled = roller.roll(rt, alloc, first(&entries, upto - from), threads, gate)?;
+    let rolled = roll(
+        roller,
+        rt,
+        alloc,
+        first(&entries, upto - from),
+        threads,
+        gate,
+    )?;
     rolled.share_times(alloc, script.servers())
 }
 
@@ -150,7 +158,7 @@ fn abandon(alloc: Global, client_state: &mut ClientState, told: &mut Vec<EndedPr
         client,
         number: next,
         snap,
-        end: ProgramEnd::Stopped,
+        end: None,
         answers: Answers::new(alloc),
     });
 }

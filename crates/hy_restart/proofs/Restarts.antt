@@ -13,7 +13,7 @@ use Rattle.hy_rolling.specs.Rolling.{Roll, Rolled, rolled_upto, new_roll, resume
 use Rattle.hy_rules.specs.History.{commits_past}
 use Rattle.hy_formats.specs.Checkpoint.{Checkpoint, IsCheckpoint, base_behind}
 use Rattle.hy_rules.specs.SavedPoints.{PointStands}
-use Rattle.hy_pipe.specs.RollerLaws.{NewRollStands, ResumedStands, RollStands}
+use Rattle.hy_roller.specs.RollerLaws.{NewRollStands, ResumedStands, RollStands}
 use Rattle.hy_restart.specs.Resuming.{start_of, starting, whole_front, restarted_roll}
 use Rattle.hy_restart.specs.Restart.{IsRestarted}
 use Rattle.hy_restart.proofs.RollerPoints.{again}

@@ -11,7 +11,7 @@ use Rattle.hy_rolling.specs.Rolling.{AreWritten, Roll, rolled_upto, next_base, S
 use Rattle.hy_rules.specs.History.{commits_past}
 use Rattle.hy_formats.specs.Checkpoint.{IsCheckpoint, base_behind, checkpoint_of}
 use Rattle.hy_rules.specs.SavedPoints.{PointStands, IsPointOf}
-use Rattle.hy_pipe.specs.RollerLaws.{IsRoller}
+use Rattle.hy_roller.specs.RollerLaws.{IsRoller}
 use Rattle.hy_points.proofs.Bases.{base_formula}
 use Rattle.hy_restart.specs.Saving.{point_of}
 

@@ -24,7 +24,7 @@ use Rattle.hy_rules.specs.History.{committed_at, writes_at, history}
 use Rattle.hy_base.specs.Verdicts.{is_commit}
 use Rattle.hy_rules.specs.Laws.{SeesAllBefore, AreSerial}
 use Rattle.hy_rules.specs.Moves.{State}
-use Rattle.hy_rules.specs.Runs.{opening_of, program_of, Ending, ByReading, ByEntryAt, ByFullLog, ByStop, Ended, ended_in, answers_on, answers_to, verdict_at}
+use Rattle.hy_rules.specs.Runs.{opening_of, program_of, Ending, ByReading, ByEntryAt, ByFull, ByStop, Ended, ended_in, answers_on, answers_to, verdict_at}
 use Rattle.hy_rules.specs.Validation.{verdicts, live}
 use Rattle.hy_rules.proofs.Serial.{commits_are_serial}
 use Rattle.hy_rules.proofs.Whole.{finished_log_is_whole}
@@ -153,7 +153,7 @@ module _ (script : Workload) (before : List EntryKind) (events : List Event) (t 
   own_of : (pos : ℕ) (d : Ended) (ending : Ending) → EndingTold script log (length before) done d ending → is_entry_at pos ending ≡ true → IsLeftByProgram script log d pos
   own_of pos d ByReading h e = absurd (true≢false (sym e))
   own_of pos d (ByEntryAt at) h e = let same : at ≡ pos = eqb-true at pos e in subst (IsLeftByProgram script log d) same h.own
-  own_of pos d ByFullLog h e = absurd (true≢false (sym e))
+  own_of pos d ByFull h e = absurd (true≢false (sym e))
   own_of pos d ByStop h e = absurd (true≢false (sym e))
 
   owner : (pos : ℕ) (d : Ended) → appended_at pos done ≡ Some d → IsLeftByProgram script log d pos

@@ -13,7 +13,8 @@ use hy_hist::Pass;
 use hy_hub::*;
 use hy_log::{PageLog, open_log};
 use hy_mem::MemDisk;
-use hy_pipe::{OpenGate, Roller, Told};
+use hy_pipe::{OpenGate, roll};
+use hy_roller::{Roller, Told};
 use std::alloc::{AllocError, Global};
 use std::sync::Wait;
 use std::test::Fail;
@@ -172,7 +173,7 @@ fn catch_up<D: Disk, R: Threads + Wait + Sync>(
     let _ = shape;
     let look = hub.look(rt, pass, server).ok()?;
     let entries = look.entries.as_slice();
-    let rolled = look.roller.roll(rt, alloc, entries, 1, &OpenGate).ok();
+    let rolled = roll(&look.roller, rt, alloc, entries, 1, &OpenGate).ok();
     drop(look);
     Some(hub.publish(rt, pass, server, rolled?))
 }

@@ -10,6 +10,7 @@ use hy_base::{
     Clash, Entry, Intention, Key, Points, Pos, Shape, Shared, Span, Spans, Verdict, Write, Writes,
 };
 use hy_pipe::*;
+use hy_roller::*;
 use hy_tree::Tree;
 use std::alloc::Global;
 use std::sync::atomic::{AtomicU32, Ordering};
@@ -77,7 +78,7 @@ fn further<R: Threads + Sync, G: Gate + Sync>(
     if room < entries.len() || shape.cap < roller.at() {
         return Err(Fail::new("the log is full"));
     }
-    Ok(roller.roll(rt, alloc, entries, threads, gate)?)
+    Ok(roll(roller, rt, alloc, entries, threads, gate)?)
 }
 
 fn shape(group: u8, window: u8, cap: Pos) -> Result<Shape, Fail>

@@ -5,7 +5,8 @@ use Rattle.hy_rolling.specs.Rolling.{Roll, rolled_upto, roll_on}
 use Rattle.hy_hub.specs.Calls.{IsRollerOf, len_of}
 use Rattle.hy_clients.proofs.Passes.{run_on, server_declared}
 use Rattle.hy_clients.proofs.Reaching.{even_at, looks_at_end, looks_still, stays_there, publishes}
-use Rattle.hy_clients.proofs.Turning.{as_own, grows}
+use Rattle.hy_hub.proofs.Holding.{own_of_one}
+use Rattle.hy_clients.proofs.Turning.{grows}
 use Rattle.hy_clients.proofs.closing.publish_look.Goals as goal
 
 pub publish-requires-clause-server : goal.publish-requires-clause-server
@@ -34,10 +35,10 @@ returns-then-is_empty-clause-ends g c =
     stays_there pass.seen c.args.server _ at
 
 pub returns-clause-pass : goal.returns-clause-pass
-returns-clause-pass g c = run_on c.requires.pass c.publish.ensures.kept.0 (as_own c.publish.ensures.turn)
+returns-clause-pass g c = run_on c.requires.pass c.publish.ensures.kept.0 (own_of_one c.publish.ensures.turn)
 
 pub returns-clause-grown : goal.returns-clause-grown
-returns-clause-grown g c = grows (as_own c.publish.ensures.turn)
+returns-clause-grown g c = grows (own_of_one c.publish.ensures.turn)
 
 pub returns-clause-log : goal.returns-clause-log
 returns-clause-log g c =

@@ -6,7 +6,7 @@ use Rattle.hy_base.specs.Shape.{IsWithin, base_groups}
 use Rattle.hy_base.specs.Rows.{Each}
 use Rattle.hy_rolling.specs.Rolling.{AreWritten, Roll, rolled_upto, next_base}
 use Rattle.hy_formats.specs.Checkpoint.{base_behind}
-use Rattle.hy_pipe.specs.RollerLaws.{IsRoller}
+use Rattle.hy_roller.specs.RollerLaws.{IsRoller}
 use Rattle.run_tests.proofs.roller.start_of.Goals as goal
 
 again : (g n : ℕ) → 1 ≤ g → g * n / g ≡ n
