@@ -18,7 +18,7 @@ use Rattle.hy_rules.specs.Exec.{Effects, exec, intention}
 use Rattle.hy_rolling.specs.Rolling.{Roll, rolled_upto, Stands}
 use Rattle.hy_base.specs.Shape.{is_within, whole_groups}
 use Rattle.hy_rules.specs.Moves.{State, surviving, client_passes, is_begun, fresh_session, after}
-use Rattle.hy_rules.specs.Runs.{snap_of, Ending, ByReading, ByEntryAt, ByFull, ByStop, Ended, answers_to, setting_of, leaves_write, added, ended_by, is_done}
+use Rattle.hy_rules.specs.Runs.{snap_of, Ending, ByStop, Ended, answers_to, setting_of, leaves_write, added, ended_by, is_done}
 use Rattle.hy_formats.specs.EntryFormat.{spelling}
 use Rattle.hy_memlog.specs.Pages.{Pages, IsStop, with_body, broken_log}
 use Rattle.hy_exec.specs.Running.{notes_write}
@@ -212,6 +212,11 @@ pub record IsUnfinishedAt (clients : List Client) (client_states : List ClientSt
   pub is : IsUnfinished clients client_states number
   pub session_is : is.client_state.session ≡ session
   pub server_is : is.own.server ≡ server
+
+-- of a roller and of these, the furthest that hasn't passed a position
+abbrev pub furthest : ℕ → Roll → List Roll → Roll
+furthest upto best [] = best
+furthest upto best (r ∷ rs) = furthest upto (if nat_lt (rolled_upto best) (rolled_upto r) && nat_le (rolled_upto r) upto then r else best) rs
 
 -- the first of these servers, the first of which has this number, whose board is below the log's length
 abbrev pub first_behind : ℕ → ℕ → List Roll → Option ℕ
