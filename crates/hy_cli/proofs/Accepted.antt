@@ -12,6 +12,8 @@ use Rattle.clap.specs.Simple.{Shape}
 use Rattle.clap.specs.Kinds.{Kinds, or_else, value_kinds}
 use Rattle.clap.specs.Faults.{bundle_fault, defaults_fault, flag_word_fault, flags_fault, other_fault, step_fault, word_fault, level_fault, long_fault, react_fault, set_fault, settle_fault, turn_fault, use_fault, values_fault, walk_fault}
 use Rattle.clap.specs.Takes.{value_passes, values_pass, is_given as is_used}
+use Rattle.std.proofs.lemmas.Bool.{and_from}
+use Rattle.std.proofs.lemmas.Slice.Eq.{bytes_eq-Decides}
 use Rattle.hy_cli.proofs.Matches.{row_at}
 use Rattle.clap.specs.declared.builder.value_parser.Reading.TheVariants.{AsWritten}
 use Rattle.clap.specs.declared.error.kind.ErrorKind.TheVariants.{ArgumentConflict, MissingRequiredArgument}
@@ -20,7 +22,7 @@ use Rattle.clap.proofs.WalkLemmas.{both}
 use Rattle.hy_base.specs.Spelling.{Text}
 use Rattle.hy_cli.specs.CommandLine.{OptionKind, flag, number, CliOption}
 use Rattle.hy_cli.specs.Matches.{is_accepted, value_accepted}
-use Rattle.hy_cli.proofs.Walks.{IsKnownOption, at_no_row, built_rule, built_rules, bytes_same, flag_opt, leaf_shape, number_opt, opt_by_name, true_and}
+use Rattle.hy_cli.proofs.Walks.{IsKnownOption, at_no_row, built_rule, built_rules, flag_opt, leaf_shape, number_opt, opt_by_name}
 use Rattle.hy_cli.proofs.Levels.{EachKnown}
 
 -- ---- what an empty list of faults says
@@ -33,7 +35,7 @@ accepted_values : (a : Rule) (vs : List Text) → values_fault a vs ≡ [] → v
 accepted_values a [] e = refl
 accepted_values a (v ∷ vs) e =
     let p = or_nil _ _ e in
-    true_and _ _ (go (value_passes a v) refl p.0) (accepted_values a vs p.1)
+    and_from _ _ (go (value_passes a v) refl p.0) (accepted_values a vs p.1)
   where
     go : (b : Bool) → value_passes a v ≡ b → value_kinds a.ignore_case (parser_of_value a.parser) v ≡ [] → b ≡ true
     go true is h = refl
@@ -288,7 +290,7 @@ module _ (options : List CliOption) (each : EachKnown options options) where
       go : (b : Bool) → bytes_eq x.id id ≡ b → (row_at id xs ≡ Some r → RowsOk options xs → (r.id ≡ id) × RowOk options r) → (r.id ≡ id) × RowOk options r
       go true is more =
           let same : x ≡ r = let h : Some x ≡ Some r = rw is at e in cc in
-          subst (λ (y : Row). (y.id ≡ id) × RowOk options y) same (bytes_same x.id id is, ok.0)
+          subst (λ (y : Row). (y.id ≡ id) × RowOk options y) same ((bytes_eq-Decides x.id id).0 is, ok.0)
       go false is more = more (rw is at e) ok.1
 
   -- the option's value is one that its parser takes
@@ -315,7 +317,7 @@ module _ (options : List CliOption) (each : EachKnown options options) where
   options_ok [] rows known ok used = refl
   options_ok (o ∷ rest) rows known ok used =
       let p = neither (o.needed && not (is_used o.name rows)) _ used in
-      true_and _ _ (option_ok o rows known.0.by_name ok (given o.needed (is_used o.name rows) p.0)) (options_ok rest rows known.1 ok p.1)
+      and_from _ _ (option_ok o rows known.0.by_name ok (given o.needed (is_used o.name rows) p.0)) (options_ok rest rows known.1 ok p.1)
     where
       neither : (a b : Bool) → (a || b) ≡ false → (a ≡ false) × (b ≡ false)
       neither true b h = absurd (true≢false h)

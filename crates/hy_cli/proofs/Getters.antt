@@ -8,10 +8,11 @@ use Rattle.clap.specs.declared.builder.value_parser.ValueParser.TheVariants as v
 use Rattle.clap.specs.declared.parser.matches.Found.{Found}
 use Rattle.clap.proofs.ValueTestLemmas.{accepts-Accepts}
 use Rattle.clap.proofs.WalkLemmas.{both, one_text-rows}
+use Rattle.std.proofs.lemmas.Slice.Eq.{bytes_eq-Decides}
 use Rattle.hy_base.specs.Spelling.{Text}
 use Rattle.hy_cli.specs.CommandLine.{command_named, point_option, save_option, seed_option, size_option, threads_option}
 use Rattle.hy_cli.specs.Matches.{choices_found, has_accepted, is_accepted}
-use Rattle.hy_cli.proofs.Walks.{bytes_same, flag_opt, number_opt}
+use Rattle.hy_cli.proofs.Walks.{flag_opt, number_opt}
 
 pub reads_number : (E : Type 0) (G : List ℕ → Result ℕ E → Type 0) (k low high otherwise : ℕ) (needed : Bool) (f : Found) (id : Text) (r : Option ℕ)
     → (one_text f id ≡ None → r ≡ None) → ((t : Text) → one_text f id ≡ Some t → ReadsOne G t r)
@@ -41,8 +42,8 @@ reads_flag needed f id r none on off accepted = go (one_of id (rows_of f)) refl
     same = one_text-rows f id
 
     read : (t : Text) → one_of id (rows_of f) ≡ Some t → (a b : Bool) → bytes_eq t (codes "true") ≡ a → bytes_eq t (codes "false") ≡ b → (a || b) ≡ true → r ≡ a
-    read t is true b is_true is_false passed = on (same ∙ is ∙ ap (λ x. Some x) (bytes_same t (codes "true") is_true))
-    read t is false true is_true is_false passed = off (same ∙ is ∙ ap (λ x. Some x) (bytes_same t (codes "false") is_false))
+    read t is true b is_true is_false passed = on (same ∙ is ∙ ap (λ x. Some x) ((bytes_eq-Decides t (codes "true")).0 is_true))
+    read t is false true is_true is_false passed = off (same ∙ is ∙ ap (λ x. Some x) ((bytes_eq-Decides t (codes "false")).0 is_false))
     read t is false false is_true is_false passed = absurd (true≢false (sym passed))
 
     go : (o : Option Text) → one_of id (rows_of f) ≡ o → r ≡ (choices_found (rows_of f)).has id
@@ -57,11 +58,11 @@ load_left name known recover check run sim =
   where
     go : (n s r c l : Bool) → bytes_eq (codes "run") name ≡ n → bytes_eq (codes "sim") name ≡ s → bytes_eq (codes "recover") name ≡ r → bytes_eq (codes "check") name ≡ c
         → bytes_eq (codes "load") name ≡ l → name ≡ codes "load"
-    go true s r c l is _ _ _ _ = absurd (run (sym (bytes_same (codes "run") name is)))
-    go false true r c l _ is _ _ _ = absurd (sim (sym (bytes_same (codes "sim") name is)))
-    go false false true c l _ _ is _ _ = absurd (recover (sym (bytes_same (codes "recover") name is)))
-    go false false false true l _ _ _ is _ = absurd (check (sym (bytes_same (codes "check") name is)))
-    go false false false false true _ _ _ _ is = sym (bytes_same (codes "load") name is)
+    go true s r c l is _ _ _ _ = absurd (run (sym ((bytes_eq-Decides (codes "run") name).0 is)))
+    go false true r c l _ is _ _ _ = absurd (sim (sym ((bytes_eq-Decides (codes "sim") name).0 is)))
+    go false false true c l _ _ is _ _ = absurd (recover (sym ((bytes_eq-Decides (codes "recover") name).0 is)))
+    go false false false true l _ _ _ is _ = absurd (check (sym ((bytes_eq-Decides (codes "check") name).0 is)))
+    go false false false false true _ _ _ _ is = sym ((bytes_eq-Decides (codes "load") name).0 is)
     go false false false false false o p q r t = absurd (true≢false (sym (rw (o, p, q, r, t) at known)))
 
 -- what a `run` has, a `sim`, and a `load`

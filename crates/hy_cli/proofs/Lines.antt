@@ -7,13 +7,14 @@ use Rattle.clap.specs.Walk.{Names, Walk, answers_to, idle, nothing_held, subcomm
 use Rattle.clap.specs.Simple.{Shape, built, entered, rows_at, is_simple, label_of, names_of, subcommand_of}
 use Rattle.clap.specs.Takes.{takes, walk_passes}
 use Rattle.clap.proofs.WalkLemmas.{walk_stopped}
+use Rattle.std.proofs.lemmas.Slice.Eq.{bytes_eq-Decides}
 use Rattle.hy_base.specs.Spelling.{Text}
 use Rattle.hy_cli.specs.CommandLine.{CliCommand, CliOption, Given, check_command, choices_given, command_line, command_named, commands, given_all, line_of, load_command, point_option, recover_command, run_command, save_option, seed_option, sim_command, size_option, threads_option}
 use Rattle.hy_cli.specs.Matches.{choices_found, hyder_app, line_found, meant}
 use Rattle.hy_cli.specs.declared.line.Line.{Line}
 use Rattle.hy_cli.specs.declared.line.Line.TheVariants.{Run, Sim, Load}
 use Rattle.hy_cli.proofs.Matches.{flag_same, number_same}
-use Rattle.hy_cli.proofs.Walks.{AreRight, built_rules, bytes_same, leaf_shape}
+use Rattle.hy_cli.proofs.Walks.{AreRight, built_rules, leaf_shape}
 use Rattle.hy_cli.proofs.Levels.{IsTable, leaf_takes, rows_of_all}
 
 -- ---- the tables of options
@@ -61,7 +62,7 @@ unfolding walk_passes walked
 stopped_passes s names w name seen [] = refl
 stopped_passes s names w name seen (x ∷ xs) = stopped_passes s names w name (seen ++ x ∷ []) xs
 
-program_simple : is_simple hyder_app ≡ true
+pub program_simple : is_simple hyder_app ≡ true
 program_simple = refl
 
 abbrev pub top : Shape
@@ -162,7 +163,7 @@ found_row (x ∷ cs) rows word c e = go (bytes_eq x.name word) refl (found_row c
     go : (b : Bool) → bytes_eq x.name word ≡ b → (find (λ c. bytes_eq c.name word) cs ≡ Some c → (c.name ≡ word) × IsTableRow c) → (c.name ≡ word) × IsTableRow c
     go true here more =
         let same : x ≡ c = cc (rw here at e) in
-        subst (λ (y : CliCommand). (y.name ≡ word) × IsTableRow y) same (bytes_same x.name word here, rows.0)
+        subst (λ (y : CliCommand). (y.name ≡ word) × IsTableRow y) same ((bytes_eq-Decides x.name word).0 here, rows.0)
     go false here more = more (rw here at e)
 
 -- a command that a word names has that name, and is a row of the table

@@ -1,5 +1,5 @@
 -- What the rows at the end of a walk hold.
-use Rattle.std.proofs.Common.{◌≡◌, ◌∙◌, ◌||◌, ℕ, Bool, true, false, cond, refl, sym, ap, subst, List, [], ◌∷◌, ◌++◌, Option, Some, None, codes, is_some, option_map, true≢false}
+use Rattle.std.proofs.Common.{◌≡◌, ◌∙◌, ◌||◌, ℕ, Bool, true, false, cond, refl, sym, ap, subst, List, [], ◌∷◌, Option, Some, None, codes, is_some, option_map, true≢false}
 use Rattle.std.specs.Prelude.{fold}
 use Rattle.std.specs.List.{find, list_any}
 use Rattle.std.specs.Str.{bytes_eq}
@@ -7,24 +7,15 @@ use Rattle.std.specs.Str.Parse.{digits_value}
 use Rattle.clap.specs.Walk.{Row, Rule, has_row, more_values, reading_by, row_text, with_default, default_rows}
 use Rattle.clap.specs.declared.parser.matches.ValueSource.TheVariants.{DefaultValue}
 use Rattle.clap.proofs.WalkLemmas.{find-map}
+use Rattle.std.proofs.lemmas.Slice.Eq.{bytes_eq-Decides}
+use Rattle.std.specs.Option.{option_or}
+use Rattle.std.proofs.lemmas.List.Folds.{find-append}
 use Rattle.hy_cli.specs.CommandLine.{OptionKind, flag, number, CliOption, Given, choices_given, is_given, is_number_in}
 use Rattle.hy_base.specs.Spelling.{Text}
 use Rattle.hy_cli.specs.Matches.{choices_found}
-use Rattle.hy_cli.proofs.Walks.{AreRight, IsRight, RightFor, at_no_row, built_rules, bytes_same, number_in, opt_by_name, row_for, rows_for, starts_with_digit}
+use Rattle.hy_cli.proofs.Walks.{AreRight, IsRight, RightFor, at_no_row, built_rules, number_in, opt_by_name, row_for, rows_for, starts_with_digit}
 
 -- ---- searches
-
-abbrev pub or_found : {X : Type 0} → Option X → Option X → Option X
-or_found None y = y
-or_found (Some x) y = Some x
-
-find_append : {X : Type 0} (p : X → Bool) (xs ys : List X) → find p (xs ++ ys) ≡ or_found (find p xs) (find p ys)
-find_append p [] ys = refl
-find_append p (x ∷ xs) ys = go (p x) (find_append p xs ys)
-  where
-    go : (b : Bool) → find p (xs ++ ys) ≡ or_found (find p xs) (find p ys) → cond b (Some x) (find p (xs ++ ys)) ≡ or_found (cond b (Some x) (find p xs)) (find p ys)
-    go true e = refl
-    go false e = e
 
 pub any_found : {X : Type 0} (p : X → Bool) (xs : List X) → is_some (find p xs) ≡ list_any p xs
 any_found p [] = refl
@@ -50,47 +41,47 @@ named_default false a = None
 
 abbrev pub default_at : Text → List Rule → Option Row
 default_at id [] = None
-default_at id (a ∷ rest) = or_found (named_default (bytes_eq a.id id) a) (default_at id rest)
+default_at id (a ∷ rest) = option_or (named_default (bytes_eq a.id id) a) (default_at id rest)
 
-or_none : {X : Type 0} (x : Option X) → x ≡ or_found x None
+or_none : {X : Type 0} (x : Option X) → x ≡ option_or x None
 or_none None = refl
 or_none (Some x) = refl
 
-or_assoc : {X : Type 0} (x y z : Option X) → or_found (or_found x y) z ≡ or_found x (or_found y z)
+or_assoc : {X : Type 0} (x y z : Option X) → option_or (option_or x y) z ≡ option_or x (option_or y z)
 or_assoc None y z = refl
 or_assoc (Some x) y z = refl
 
-or_known : {X : Type 0} (x y : Option X) → is_some x ≡ true → x ≡ or_found x y
+or_known : {X : Type 0} (x y : Option X) → is_some x ≡ true → x ≡ option_or x y
 or_known None y e = absurd (true≢false (sym e))
 or_known (Some x) y e = refl
 
-one_default : (id : Text) (rows : List Row) (a : Rule) → row_at id (with_default rows a) ≡ or_found (row_at id rows) (named_default (bytes_eq a.id id) a)
+one_default : (id : Text) (rows : List Row) (a : Rule) → row_at id (with_default rows a) ≡ option_or (row_at id rows) (named_default (bytes_eq a.id id) a)
 one_default id rows a = go (has_row a.id rows) (bytes_eq a.id id) refl refl
   where
     added : (n : Bool) (ds : List Text) → has_row a.id rows ≡ false → bytes_eq a.id id ≡ n → a.defaults ≡ ds
-        → row_at id (default_rows a.id (reading_by a) ds rows) ≡ or_found (row_at id rows) (elim n as (λ _. Option Row) [ true ↦ default_row a ds | false ↦ None ])
+        → row_at id (default_rows a.id (reading_by a) ds rows) ≡ option_or (row_at id rows) (elim n as (λ _. Option Row) [ true ↦ default_row a ds | false ↦ None ])
     added true [] absent named is = or_none _
     added false [] absent named is = or_none _
     added n (v ∷ vs) absent named is =
         let row : Row = record { id = a.id; values = v ∷ vs; count = None; source = Some DefaultValue; reading = reading_by a } in
-        ap (row_at id) (at_no_row a.id (more_values DefaultValue (v ∷ vs)) (row ∷ []) rows absent) ∙ find_append (λ (r : Row). bytes_eq r.id id) rows (row ∷ []) ∙ ap (λ b. or_found (row_at id rows) (cond b (Some row) None)) named ∙ last n row
+        ap (row_at id) (at_no_row a.id (more_values DefaultValue (v ∷ vs)) (row ∷ []) rows absent) ∙ find-append (λ (r : Row). bytes_eq r.id id) rows (row ∷ []) ∙ ap (λ b. option_or (row_at id rows) (cond b (Some row) None)) named ∙ last n row
       where
-        last : (n : Bool) (row : Row) → or_found (row_at id rows) (cond n (Some row) None) ≡ or_found (row_at id rows) (elim n as (λ _. Option Row) [ true ↦ Some row | false ↦ None ])
+        last : (n : Bool) (row : Row) → option_or (row_at id rows) (cond n (Some row) None) ≡ option_or (row_at id rows) (elim n as (λ _. Option Row) [ true ↦ Some row | false ↦ None ])
         last true row = refl
         last false row = refl
 
-    go : (has n : Bool) → has_row a.id rows ≡ has → bytes_eq a.id id ≡ n → row_at id (with_default rows a) ≡ or_found (row_at id rows) (named_default (bytes_eq a.id id) a)
+    go : (has n : Bool) → has_row a.id rows ≡ has → bytes_eq a.id id ≡ n → row_at id (with_default rows a) ≡ option_or (row_at id rows) (named_default (bytes_eq a.id id) a)
     go true true here named =
-        let there : is_some (row_at id rows) ≡ true = any_found (λ (r : Row). bytes_eq r.id id) rows ∙ subst (λ (x : Text). has_row x rows ≡ true) (bytes_same a.id id named) here in
+        let there : is_some (row_at id rows) ≡ true = any_found (λ (r : Row). bytes_eq r.id id) rows ∙ subst (λ (x : Text). has_row x rows ≡ true) ((bytes_eq-Decides a.id id).0 named) here in
         rw (here, named) (or_known _ _ there)
     go true false here named = rw (here, named) (or_none _)
     go false true absent named = rw (absent, named) (added true a.defaults absent named refl)
     go false false absent named = rw (absent, named) (added false a.defaults absent named refl)
 
-pub defaults_found : (id : Text) (c : List Rule) (rows : List Row) → row_at id (fold with_default rows c) ≡ or_found (row_at id rows) (default_at id c)
+pub defaults_found : (id : Text) (c : List Rule) (rows : List Row) → row_at id (fold with_default rows c) ≡ option_or (row_at id rows) (default_at id c)
 defaults_found id [] rows = or_none _
 defaults_found id (a ∷ c) rows =
-    defaults_found id c (with_default rows a) ∙ ap (λ o. or_found o (default_at id c)) (one_default id rows a) ∙ or_assoc (row_at id rows) (named_default (bytes_eq a.id id) a) (default_at id c)
+    defaults_found id c (with_default rows a) ∙ ap (λ o. option_or o (default_at id c)) (one_default id rows a) ∙ or_assoc (row_at id rows) (named_default (bytes_eq a.id id) a) (default_at id c)
 
 -- ---- the values
 
@@ -104,7 +95,7 @@ right_found options id (q ∷ g) p right e = go (bytes_eq q.0 id) refl (right_fo
     go : (b : Bool) → bytes_eq q.0 id ≡ b → (find (λ p. bytes_eq p.0 id) g ≡ Some p → IsRight (opt_by_name options id) p.1) → IsRight (opt_by_name options id) p.1
     go true here more =
         let same : q ≡ p = cc (rw here at e) in
-        let name = bytes_same q.0 id here in
+        let name = (bytes_eq-Decides q.0 id).0 here in
         subst (λ (x : Text × Text). IsRight (opt_by_name options id) x.1) same (subst (λ (x : Text). IsRight (opt_by_name options x) q.1) name right.0)
     go false here more = more (rw here at e)
 
@@ -114,9 +105,9 @@ pub number_same : (options : List CliOption) (id : Text) (low high otherwise : �
     → rows ≡ fold with_default (rows_for g) (built_rules options) → (choices_found rows).number_or otherwise id ≡ (choices_given g).number_or otherwise id
 number_same options id low high otherwise o g rows right named is none ends = go (find (λ p. bytes_eq p.0 id) g) refl
   where
-    row_is : row_at id rows ≡ or_found (option_map row_for (find (λ p. bytes_eq p.0 id) g)) None
-    row_is = ap (row_at id) ends ∙ defaults_found id (built_rules options) (rows_for g) ∙ ap (λ o. or_found o (default_at id (built_rules options))) (given_row id g)
-        ∙ ap (or_found (option_map row_for (find (λ p. bytes_eq p.0 id) g))) none
+    row_is : row_at id rows ≡ option_or (option_map row_for (find (λ p. bytes_eq p.0 id) g)) None
+    row_is = ap (row_at id) ends ∙ defaults_found id (built_rules options) (rows_for g) ∙ ap (λ o. option_or o (default_at id (built_rules options))) (given_row id g)
+        ∙ ap (option_or (option_map row_for (find (λ p. bytes_eq p.0 id) g))) none
 
     go : (found : Option (Text × Text)) → find (λ p. bytes_eq p.0 id) g ≡ found → (choices_found rows).number_or otherwise id ≡ (choices_given g).number_or otherwise id
     go None e = rw (row_is, e) refl
@@ -130,9 +121,9 @@ pub flag_same : (options : List CliOption) (id : Text) (o : CliOption) (row : Ro
     → rows ≡ fold with_default (rows_for g) (built_rules options) → (choices_found rows).has id ≡ (choices_given g).has id
 flag_same options id o row g rows right named is default reads ends = go (find (λ p. bytes_eq p.0 id) g) refl
   where
-    row_is : row_at id rows ≡ or_found (option_map row_for (find (λ p. bytes_eq p.0 id) g)) (Some row)
-    row_is = ap (row_at id) ends ∙ defaults_found id (built_rules options) (rows_for g) ∙ ap (λ o. or_found o (default_at id (built_rules options))) (given_row id g)
-        ∙ ap (or_found (option_map row_for (find (λ p. bytes_eq p.0 id) g))) default
+    row_is : row_at id rows ≡ option_or (option_map row_for (find (λ p. bytes_eq p.0 id) g)) (Some row)
+    row_is = ap (row_at id) ends ∙ defaults_found id (built_rules options) (rows_for g) ∙ ap (λ o. option_or o (default_at id (built_rules options))) (given_row id g)
+        ∙ ap (option_or (option_map row_for (find (λ p. bytes_eq p.0 id) g))) default
 
     there : is_some (find (λ p. bytes_eq p.0 id) g) ≡ is_given id g
     there = any_found (λ p. bytes_eq p.0 id) g

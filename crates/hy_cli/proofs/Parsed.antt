@@ -13,14 +13,11 @@ use Rattle.hy_base.specs.Spelling.{Text}
 use Rattle.hy_cli.specs.CommandLine.{command_named, line_of, names_command}
 use Rattle.hy_cli.specs.Matches.{has_accepted, hyder_app, line_found, meant}
 use Rattle.hy_cli.specs.declared.line.Line.{Line}
-use Rattle.hy_cli.proofs.Lines.{line_obeyed}
+use Rattle.hy_cli.proofs.Lines.{line_obeyed, program_simple}
 use Rattle.hy_cli.proofs.Refusals.{taken_words}
 
 pub program_free : is_simple_and_free hyder_app ≡ true
 program_free = refl
-
-pub program_simple : is_simple hyder_app ≡ true
-program_simple = refl
 
 module _ {Z : Type 0} where
   same_command : (sub : Option (Box SubCommand Z)) (name n : Text) (rows rs : List Row) → Some name ≡ option_map (λ b. (out-SubCommand (box_value b)).name.now) sub

@@ -1,5 +1,5 @@
 -- What clap makes of the options of one command.
-use Rattle.std.proofs.Common.{◌≡◌, ◌∙◌, ◌<◌, ◌^◌, ◌&&◌, ◌==◌, not, ℕ, Bool, true, false, refl, sym, ap, subst, arith, List, [], ◌∷◌, ◌++◌, map, length, Option, Some, None, codes, true≢false}
+use Rattle.std.proofs.Common.{◌≡◌, ◌∙◌, ◌<◌, ◌^◌, ◌==◌, ℕ, Bool, true, false, refl, sym, ap, subst, arith, List, [], ◌∷◌, ◌++◌, map, length, Option, Some, None, codes, true≢false}
 use Rattle.std.specs.Prelude.{nat_lt, option_and_then, fold, decimal}
 use Rattle.std.specs.List.{find, list_all}
 use Rattle.std.specs.Str.{bytes_eq}
@@ -11,7 +11,7 @@ use Rattle.hy_base.specs.Shape.{is_within}
 use Rattle.std.specs.Char.{digit_value}
 use Rattle.std.proofs.lemmas.List.{append-nil, map-append}
 use Rattle.std.proofs.lemmas.Slice.Eq.{bytes_eq-Decides}
-use Rattle.std.proofs.lemmas.Bool.{lt-ltb, ltb-true, ne_eqb}
+use Rattle.std.proofs.lemmas.Bool.{lt-ltb, ltb-true, ne_eqb, and_from}
 use Rattle.clap.specs.Lexer.{long_of, short_of}
 use Rattle.clap.specs.Walk.{Row, Rule, Walk, arg_by_id, arg_by_long, at_row, idle, more_values, settled_rows, used, walked, without, has_row}
 use Rattle.clap.specs.Simple.{Shape, filled, new_shape}
@@ -26,18 +26,8 @@ use Rattle.hy_cli.specs.Matches.{rule_for}
 
 -- ---- tests
 
-pub bytes_same : (a b : Text) → bytes_eq a b ≡ true → a ≡ b
-bytes_same a b = (bytes_eq-Decides a b).0
-
 pub bytes_refl : (a : Text) → bytes_eq a a ≡ true
 bytes_refl a = (bytes_eq-Decides a a).1 refl
-
-pub true_and : (a b : Bool) → a ≡ true → b ≡ true → (a && b) ≡ true
-true_and a b p q = rw p q
-
-pub is_untrue : (b : Bool) → not b ≡ true → b ≡ false
-is_untrue true e = absurd (true≢false (sym e))
-is_untrue false e = refl
 
 -- ---- numbers
 
@@ -56,7 +46,7 @@ number_in low high text e = go (nat_lt (digits_value 10 text) (2 ^ 64)) (bytes_e
     go true true p q =
         let small = ltb-true (digits_value 10 text) (2 ^ 64) p in
         record {
-          numeral = subst (IsNumeral 10) (bytes_same (decimal (digits_value 10 text)) text q) (decimal_is_IsNumeral (digits_value 10 text) small).0;
+          numeral = subst (IsNumeral 10) ((bytes_eq-Decides (decimal (digits_value 10 text)) text).0 q) (decimal_is_IsNumeral (digits_value 10 text) small).0;
           small = small;
           within = rw (p, q) at e;
         }
@@ -71,13 +61,13 @@ starts_with_digit (d ∷ ds) h =
 
 digits_read : (ds : Text) → AllDigits 10 ds → list_all (λ d. nat_lt (digit_value d) 10) ds ≡ true
 digits_read [] h = refl
-digits_read (d ∷ ds) h = true_and _ _ (lt-ltb (digit_value d) 10 h.0) (digits_read ds h.1)
+digits_read (d ∷ ds) h = and_from _ _ (lt-ltb (digit_value d) 10 h.0) (digits_read ds h.1)
 
 pub number_accepted : (low high : ℕ) (text : Text) → is_number_in low high text ≡ true → accepts false (vp.Unsigned low high) text ≡ true
 number_accepted low high text e =
     let h = number_in low high text e in
     let plain = (starts_with_digit text h.numeral).3 in
-    rw plain (true_and _ _ (true_and _ _ (lt-ltb 0 (length text) h.numeral.0) (digits_read text h.numeral.1)) (true_and _ _ (lt-ltb _ _ h.small) h.within))
+    rw plain (and_from _ _ (and_from _ _ (lt-ltb 0 (length text) h.numeral.0) (digits_read text h.numeral.1)) (and_from _ _ (lt-ltb _ _ h.small) h.within))
 
 -- ---- the rows of the options that were given
 

@@ -1,7 +1,7 @@
 -- Own writes over the rows of a snapshot.
 use Rattle.std.proofs.Common.{◌≡◌, ◌∙◌, ℕ, ◌<◌, ◌≤◌, Bool, true, false, cond, List, [], ◌∷◌, Option, Some, None, refl, sym, ap, arith, inl, inr, ◌⊎◌}
 use Rattle.std.specs.Prelude.{IsTrue, IfSome, nat_lt, nat_le, find, option_map, option_and_then, ◌==◌, if◌then◌else◌}
-use Rattle.std.proofs.lemmas.Bool.{cases_lt, cases_order, lt-ltb, le-ltb, lt-leb, le-leb, ltb-true, eqb-true}
+use Rattle.std.proofs.lemmas.Bool.{cases_lt, cases_order, lt-ltb, le-ltb, lt-leb, le-leb, ltb-true, eqb-true, and_parts}
 use Rattle.hy_base.specs.declared.record.Row.{Row}
 use Rattle.hy_base.specs.declared.record.Write.{Write}
 use Rattle.hy_base.specs.Lists.{put}
@@ -14,7 +14,6 @@ use Rattle.hy_rules.specs.Exec.{after_write, after_writes, value_in}
 use Rattle.hy_tree.specs.TreeRows.{first_from}
 use Rattle.hy_exec.specs.Scans.{own_rows}
 use Rattle.hy_rules.proofs.PairLemmas.{one_row}
-use Rattle.hy_rules.proofs.Rising.{first, second}
 
 cases_le : (a b : ℕ) → (a ≤ b) ⊎ (b < a)
 cases_le a b = elim (cases_lt b a) [ inl h ↦ inr h | inr h ↦ inl h ]
@@ -131,8 +130,8 @@ pub ordered_writes : (writes : List Write) → IsTrue (is_rising write_before wr
 ordered_writes [] h = tt
 ordered_writes (w ∷ []) h = (tt, tt)
 ordered_writes (w ∷ (v ∷ ws)) h =
-    let lt : w.key < v.key = ltb-true w.key v.key (first (nat_lt w.key v.key) _ h) in
-    let rest = ordered_writes (v ∷ ws) (second (nat_lt w.key v.key) _ h) in
+    let lt : w.key < v.key = ltb-true w.key v.key (and_parts (nat_lt w.key v.key) _ h).0 in
+    let rest = ordered_writes (v ∷ ws) (and_parts (nat_lt w.key v.key) _ h).1 in
     ((lt, Each-map (λ s. v.key < s.key) (λ s. w.key < s.key) (λ s p. omega (arith, p, lt)) (rows_at 0 ws) rest.0), rest)
 
 -- the first row of both, from what was found of each

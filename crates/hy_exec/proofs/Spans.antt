@@ -1,11 +1,10 @@
 -- A scan, place by place.
-use Rattle.std.proofs.Common.{◌≡◌, ◌∙◌, ℕ, ◌+◌, ◌<◌, ◌≤◌, Bool, true, false, List, [], ◌∷◌, ◌++◌, Option, Some, None, refl, sym, ap, subst, arith, inl, inr, append_assoc, ◌-◌, zero, suc, length}
+use Rattle.std.proofs.Common.{◌≡◌, ◌∙◌, ℕ, ◌+◌, ◌<◌, ◌≤◌, true, false, List, [], ◌∷◌, ◌++◌, Option, Some, None, refl, sym, ap, subst, arith, inl, inr, append_assoc, ◌-◌, zero, suc, length}
 use Rattle.std.proofs.lemmas.List.{append-nil}
-use Rattle.std.specs.Prelude.{nat_le, ◌&&◌, option_map, slice_get, IfSome, filter, take, ◌==◌, if◌then◌else◌}
-use Rattle.std.specs.List.{AllByRecursion, last_or}
-use Rattle.std.proofs.lemmas.List.Elements.{All-take, recursion_from_All, filter_passes}
-use Rattle.std.specs.Option.{option_map_or, option_to_list}
-use Rattle.std.proofs.lemmas.Bool.{cases_lt, eq-eqb, leb-true, lt-leb, le-leb}
+use Rattle.std.specs.Prelude.{nat_le, option_map, slice_get, IfSome}
+use Rattle.std.specs.List.{last_or}
+use Rattle.std.specs.Option.{option_to_list}
+use Rattle.std.proofs.lemmas.Bool.{cases_lt, eq-eqb, lt-leb, le-leb, and_right}
 use Rattle.hy_base.specs.declared.record.Row.{Row}
 use Rattle.hy_base.specs.declared.report.Pair.{Pair}
 use Rattle.hy_base.specs.Entry.{is_in_span}
@@ -15,8 +14,8 @@ use Rattle.hy_base.proofs.RowLemmas.{ordered_applied}
 use Rattle.hy_base.specs.declared.record.Write.{Write}
 use Rattle.hy_base.specs.declared.record.Span.{Span}
 use Rattle.hy_rules.specs.Exec.{Effects, after_writes, read_span, scanned}
-use Rattle.hy_rules.proofs.Rising.{first}
 use Rattle.hy_rules.specs.History.{pairs_of}
+use Rattle.hy_rules.proofs.EffectLemmas.{ordered_read}
 use Rattle.hy_tree.specs.TreeRows.{first_from}
 use Rattle.hy_exec.specs.Scans.{key_and_value, own_rows, pair_of, still_to_come}
 use Rattle.hy_exec.proofs.Own.{pairs_own}
@@ -41,15 +40,11 @@ inside from hi r rs in_it = go r.value refl
     go None e = rw e refl
     go (Some v) e = rw (e, in_it) refl
 
-neither : (a b : Bool) → b ≡ false → (a && b) ≡ false
-neither true b e = e
-neither false b e = refl
-
 below : (key from hi : ℕ) → key < from → is_in_span key (record { lo = from; hi = hi }) ≡ false
 below key from hi lt = rw (lt-leb from key lt) refl
 
 above : (key from hi : ℕ) → hi < key → is_in_span key (record { lo = from; hi = hi }) ≡ false
-above key from hi lt = neither (nat_le from key) (nat_le key hi) (lt-leb key hi lt)
+above key from hi lt = and_right (nat_le from key) (nat_le key hi) (lt-leb key hi lt)
 
 within : (key from hi : ℕ) → from ≤ key → key ≤ hi → is_in_span key (record { lo = from; hi = hi }) ≡ true
 within key from hi a b = rw (le-leb from key a, le-leb key hi b) refl
@@ -217,32 +212,6 @@ fewer_left hi from before None e h = rw e (omega arith)
 fewer_left hi from before (Some key) e h = rw e (omega (arith, h.0, h.1))
 
 -- ---- what was read is a span
-
--- the last of some pairs has a key from lo on, where each of them has
-last_from : (lo hi : ℕ) (ps : List Pair) (o : Option Pair) → IfSome o (λ p. lo ≤ p.key) → lo ≤ hi → AllByRecursion (λ p. lo ≤ p.key) ps → lo ≤ option_map_or (λ p. p.key) (last_or o ps) hi
-last_from lo hi [] None h l a = l
-last_from lo hi [] (Some p) h l a = h
-last_from lo hi (p ∷ ps) o h l a = last_from lo hi ps (Some p) a.0 l a.1
-
-from_lo : (span : Span) (ps : List Pair) → AllByRecursion (λ p. is_in_span p.key span ≡ true) ps → AllByRecursion (λ p. span.lo ≤ p.key) ps
-from_lo span [] h = tt
-from_lo span (p ∷ ps) h = (let low = first (nat_le span.lo p.key) _ h.0 in leb-true span.lo p.key low, from_lo span ps h.1)
-
-given_from_lo : (pairs : List Pair) (e : Effects) (span : Span) (n : ℕ) → AllByRecursion (λ p. span.lo ≤ p.key) (scanned pairs e span n)
-given_from_lo pairs e span n =
-    let test : Pair → Bool = λ p. is_in_span p.key span in
-    let found = filter test (after_writes pairs e.writes) in
-    from_lo span (take n found) (recursion_from_All (λ p. test p ≡ true) (take n found) (All-take (λ p. test p ≡ true) n found (filter_passes test (after_writes pairs e.writes))))
-
-ordered_end : (lo hi last : ℕ) (b : Bool) → lo ≤ hi → lo ≤ last → lo ≤ (if b then last else hi)
-ordered_end lo hi last true h k = k
-ordered_end lo hi last false h k = h
-
-ordered_read : (pairs : List Pair) (e : Effects) (span : Span) (n : ℕ) → span.lo ≤ span.hi → span.lo ≤ (read_span span n (scanned pairs e span n)).hi
-ordered_read pairs e span n h =
-    let given = scanned pairs e span n in
-    ordered_end span.lo span.hi (option_map_or (λ p. p.key) (last_or None given) span.hi) (length given == n) h
-    (last_from span.lo span.hi given None tt h (given_from_lo pairs e span n))
 
 -- the part of a span that a scan read ends at its end, or at a key that was given
 pub read_is_ordered : (pairs : List Pair) (e : Effects) (span read : Span) (n : ℕ) (given : List Pair) → span.lo ≤ span.hi → given ≡ scanned pairs e span n → read ≡ read_span span n given → read.lo ≤ read.hi

@@ -7,7 +7,7 @@ use Rattle.hy_base.specs.declared.workload.Event.{Event}
 use Rattle.hy_base.specs.declared.workload.Event.TheVariants.{Publish}
 use Rattle.hy_gen.specs.Rounds.{period, is_last, entry_count, ending, append_count, whole, log_len, publishes}
 
-entry_few : (o : Option Bool) → entry_count o ≤ 1
+pub entry_few : (o : Option Bool) → entry_count o ≤ 1
 entry_few None = omega arith
 entry_few (Some true) = omega arith
 entry_few (Some false) = omega arith

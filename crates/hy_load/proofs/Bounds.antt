@@ -7,17 +7,10 @@ use Rattle.std.proofs.lemmas.List.Sums.{sum_by-cons}
 use Rattle.hy_base.proofs.NthLemmas.{nth_within}
 use Rattle.hy_gen.specs.Load.{program_count}
 use Rattle.hy_gen.specs.Rounds.{append_count, ending, entry_count, home, is_last, log_len, number_in, period, whole}
+use Rattle.hy_gen.proofs.Lengths.{entry_few, log_len_next, log_len_first}
 use Rattle.hy_load.proofs.Turns.{IsPeriod, has_no_program, home_within, is_period}
 
 -- ---- lengths before rounds
-
-pub first_len : (readers : List Bool) → log_len readers 0 ≡ 0
-unfolding log_len
-first_len readers = refl
-
-pub next_len : (readers : List Bool) (t : ℕ) → log_len readers (t + 1) ≡ whole (log_len readers t + append_count readers t)
-unfolding log_len
-next_len readers t = let next : t + 1 ≡ suc t = omega arith in ap (log_len readers) next
 
 pub whole_is_whole : (n : ℕ) → whole n % 4 ≡ 0
 whole_is_whole n = omega arith
@@ -26,14 +19,14 @@ pub whole_least : (n : ℕ) → n ≤ whole n
 whole_least n = omega arith
 
 pub len_is_whole : (readers : List Bool) (t : ℕ) → log_len readers t % 4 ≡ 0
-len_is_whole readers zero = omega (arith, first_len readers)
+len_is_whole readers zero = omega (arith, log_len_first readers)
 len_is_whole readers (suc t) =
     let next : suc t ≡ t + 1 = omega arith in
-    let same = ap (log_len readers) next ∙ next_len readers t in
+    let same = ap (log_len readers) next ∙ log_len_next readers t in
     omega (arith, same, whole_is_whole (log_len readers t + append_count readers t))
 
 len_grows : (readers : List Bool) (t : ℕ) → log_len readers t ≤ log_len readers (t + 1)
-len_grows readers t = omega (arith, next_len readers t, whole_least (log_len readers t + append_count readers t))
+len_grows readers t = omega (arith, log_len_next readers t, whole_least (log_len readers t + append_count readers t))
 
 len_later : (readers : List Bool) (a n : ℕ) → log_len readers a ≤ log_len readers (a + n)
 len_later readers a zero = let same : a + 0 ≡ a = omega arith in omega (arith, ap (log_len readers) same)
@@ -50,11 +43,6 @@ ended_before size t client = min (t / period (home client)) (program_count size 
 
 abbrev pub all_ended : ℕ → ℕ → ℕ
 all_ended size t = sum_by (ended_before size t) (range_with_len 1 8)
-
-one_at_most : (o : Option Bool) → entry_count o ≤ 1
-one_at_most None = omega arith
-one_at_most (Some true) = omega arith
-one_at_most (Some false) = omega arith
 
 no_entry : (o : Option Bool) → o ≡ None → entry_count o ≡ 0
 no_entry o is = ap entry_count is
@@ -76,7 +64,7 @@ one_ends readers t client least most = go (is_last (home client) t) refl
     found (Some r) is =
         let within = nth_within readers (suc (number_in client t)) r is in
         let few : turn < program_count size client = omega (arith, within.at_most, has_no_program size client turn least most) in
-        omega (arith, one_at_most (Some r), few)
+        omega (arith, entry_few (Some r), few)
 
     go : (b : Bool) → is_last (home client) t ≡ b → entry_count (ending readers t client) + ended_before size t client ≤ ended_before size (t + 1) client
     go true is =
@@ -131,10 +119,10 @@ whole_few len zero is = omega (arith, is)
 whole_few len (suc n) is = omega arith
 
 len_by_ended : (readers : List Bool) (t : ℕ) → log_len readers t ≤ 4 * all_ended (length readers) t
-len_by_ended readers zero = omega (arith, first_len readers)
+len_by_ended readers zero = omega (arith, log_len_first readers)
 len_by_ended readers (suc t) =
     let next : suc t ≡ t + 1 = omega arith in
-    let same = ap (log_len readers) next ∙ next_len readers t in
+    let same = ap (log_len readers) next ∙ log_len_next readers t in
     let ended = ap (all_ended (length readers)) next in
     omega (arith, same, ended, len_by_ended readers t, whole_few (log_len readers t) (append_count readers t) (len_is_whole readers t), round_ends readers t)
 

@@ -5,6 +5,7 @@ use Rattle.std.specs.Prelude.{◌⊎◌, min, flat_map, sum_by, nat_lt, not, opt
 use Rattle.std.specs.List.{range_with_len, AllByRecursion}
 use Rattle.std.proofs.lemmas.Bool.{eqb-true, eqb-false}
 use Rattle.std.proofs.lemmas.List.Sums.{sum_by-cons}
+use Rattle.std.proofs.lemmas.Option.{slice_get_past}
 use Rattle.hy_base.specs.declared.record.EntryKind.{EntryKind}
 use Rattle.hy_base.specs.declared.record.EntryKind.TheVariants.{Filler, Txn}
 use Rattle.hy_base.specs.declared.record.Write.{Write}
@@ -24,7 +25,7 @@ use Rattle.hy_load.specs.Laws.{CountsUpTo, EntryCounts, LogCounts}
 use Rattle.hy_load.proofs.Bounds.{len_rises}
 use Rattle.hy_load.proofs.Counting.{live_counts}
 use Rattle.hy_load.proofs.Programs.{ProgramLeaves, program_leaves}
-use Rattle.hy_load.proofs.Spots.{change_middle, get_beyond, nth_middle, run_both, run_one}
+use Rattle.hy_load.proofs.Spots.{change_middle, nth_middle, run_both, run_one}
 use Rattle.hy_load.proofs.Steady.{AreAll, IsAmid, IsBeforeRound, IsBusy, IsIdleBehind, board_before, boards_before, calm_state, passes, program_is, turn_in}
 use Rattle.hy_load.proofs.Turns.{IsPeriod, home_within, is_period, start}
 
@@ -144,7 +145,7 @@ module _ (seed : ℕ) (readers : List Bool) (t client : ℕ) (log : List EntryKi
   idles : is_last (home client) t ≡ true → IsIdleBehind count x → count ≤ turn → ClientEnds seed readers t client log done x todo
   idles is idle past =
       let turns = p.turns t (ends_now is) in
-      waits (rw (is, get_beyond readers (number_in client t) (omega (arith, past, least, most))) refl) (record {
+      waits (rw (is, slice_get_past readers (number_in client t) (omega (arith, past, least, most))) refl) (record {
         last = let l = amid.last in omega (arith, l, board_rises is);
         does = inl (record { phase = idle.phase; next = let n = idle.next in omega (arith, n, past, turns) }, inl (ends_now is));
       })

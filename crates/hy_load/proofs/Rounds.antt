@@ -10,9 +10,10 @@ use Rattle.hy_rules.specs.Moves.{State, fresh_session}
 use Rattle.hy_rules.specs.Runs.{opening_of, run}
 use Rattle.hy_gen.specs.Load.{script_of}
 use Rattle.hy_gen.specs.Rounds.{append_count, begin_events, ends, events_in, home, log_len, pads, period, whole}
+use Rattle.hy_gen.proofs.Lengths.{log_len_next, log_len_first}
 use Rattle.hy_load.specs.Laws.{LogCounts}
 use Rattle.hy_load.proofs.Begins.{all_begin}
-use Rattle.hy_load.proofs.Bounds.{first_len, len_at_most, next_len, whole_least}
+use Rattle.hy_load.proofs.Bounds.{len_at_most, whole_least}
 use Rattle.hy_load.proofs.Closes.{all_publish, padded}
 use Rattle.hy_load.proofs.Ends.{KnowsReaders, all_end, appends_of}
 use Rattle.hy_load.proofs.Spots.{run_both}
@@ -42,7 +43,7 @@ one_round seed readers t log sessions knows small steady =
     let begun_count : length begun.sessions ≡ 8 = begun.count ∙ count in
     let total = append_count readers t in
     let appends : appends_of readers t 1 (length begun.sessions) ≡ total = ap (appends_of readers t 1) begun_count in
-    let next = next_len readers t in
+    let next = log_len_next readers t in
     let ended = all_end seed readers t 1 log [] begun.sessions knows small (len_at_most readers (t + 1)) refl (omega (arith, begun_count)) (omega (arith, long, appends, next, whole_least (log_len readers t + total))) steady.counts begun.amid in
     let longer = ended.longer in
     let full : length ended.after ≡ log_len readers t + total = omega (arith, longer, appends, long) in
@@ -108,6 +109,6 @@ steady_first readers = record {
       ),
     ),
   );
-  long = sym (first_len readers);
+  long = sym (log_len_first readers);
   counts = tt;
 }

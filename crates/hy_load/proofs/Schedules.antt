@@ -1,13 +1,12 @@
 -- The schedule of a load.
-use Rattle.std.proofs.Common.{◌≡◌, ◌∙◌, ℕ, suc, ◌+◌, ◌*◌, ◌≤◌, Bool, List, [], ◌∷◌, length, map, refl, ap, subst, arith, Option, Some, None}
-use Rattle.std.specs.Prelude.{option_and_then, option_map, replicate}
+use Rattle.std.proofs.Common.{◌≡◌, ◌∙◌, ℕ, ◌+◌, ◌*◌, ◌≤◌, Bool, List, [], length, map, ap, subst, arith, Some}
+use Rattle.std.specs.Prelude.{replicate}
 use Rattle.std.specs.List.{range_with_len}
 use Rattle.std.proofs.lemmas.List.FromFn.{length-map-range_with_len}
-use Rattle.hy_base.specs.declared.workload.Event.{Event}
-use Rattle.hy_base.specs.Script.{Workload}
 use Rattle.hy_base.specs.Limits.{IsLoadSize}
 use Rattle.hy_rules.specs.Moves.{State, fresh_session}
-use Rattle.hy_rules.specs.Runs.{first_disabled, opening_of, run, step}
+use Rattle.hy_rules.specs.Runs.{opening_of, run}
+use Rattle.hy_rules.proofs.Backward.{none_disabled}
 use Rattle.hy_gen.specs.Draws.{reads_only}
 use Rattle.hy_gen.specs.Load.{schedule_of, script_of}
 use Rattle.hy_gen.specs.Rounds.{round_count, schedule}
@@ -51,17 +50,8 @@ ends seed size within =
       counts = all.steady.counts;
     }
 
--- a run that leads somewhere has no event that is disabled
-none_disabled : (script : Workload) (s t : State) (events : List Event) → run script s events ≡ Some t → first_disabled script s events ≡ None
-none_disabled script s t [] h = refl
-none_disabled script s t (event ∷ events) h = go (step script s event) refl h (λ n. none_disabled script n t events)
-  where
-    go : (next : Option State) → step script s event ≡ next → option_and_then (λ n. run script n events) next ≡ Some t → ((n : State) → run script n events ≡ Some t → first_disabled script n events ≡ None) → first_disabled script s (event ∷ events) ≡ None
-    go None is h rest = cc h
-    go (Some n) is h rest = rw is (ap (option_map suc) (rest n h))
-
 pub schedule_is_enabled : ScheduleIsEnabled
-schedule_is_enabled seed size within = let e = ends seed size within in none_disabled (script_of seed size) (opening_of (script_of seed size) []) e.end (schedule_of seed size) e.leads
+schedule_is_enabled seed size within = let e = ends seed size within in none_disabled (script_of seed size) (schedule_of seed size) (opening_of (script_of seed size) []) e.end e.leads
 
 pub schedule_leads : ScheduleLeads
 schedule_leads seed size within = let e = ends seed size within in rw e.leads (e.long, e.counts)

@@ -53,8 +53,3 @@ run_both script s t u (event ∷ first) second p q = go (step script s event) re
 -- one event that may happen
 pub run_one : (script : Workload) (s : State) (event : Event) → may_happen script s event ≡ true → run script s (event ∷ []) ≡ Some (next_state script s event)
 run_one script s event may = rw may refl
-
-pub get_beyond : {X : Type 0} (xs : List X) (k : ℕ) → length xs ≤ k → slice_get xs k ≡ None
-get_beyond [] k past = refl
-get_beyond (x ∷ xs) zero past = absurd (omega (arith, past))
-get_beyond (x ∷ xs) (suc k) past = get_beyond xs k (omega (arith, past))

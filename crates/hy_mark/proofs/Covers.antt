@@ -8,8 +8,8 @@ use Rattle.std.proofs.Math.Nat.{pow-le-pow_right}
 use Rattle.std.proofs.lemmas.List.Folds.{list_any-append}
 use Rattle.hy_base.specs.declared.record.Span.{Span}
 use Rattle.hy_base.specs.Entry.{is_in_span}
+use Rattle.hy_base.proofs.ListLemmas.{all_append, all_map}
 use Rattle.hy_mark.specs.Blocks.{IsBlock, AreApart}
-use Rattle.hy_mark.proofs.Facts.{all_append, all_map}
 use Rattle.hy_mark.proofs.Widths.{Widest, power_up, aligned_less, aligned_up, next_aligned, at_least}
 
 -- the blocks so far are no more than the bits that the next key has free

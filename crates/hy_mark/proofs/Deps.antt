@@ -5,23 +5,8 @@ use Rattle.std.proofs.lemmas.Bool.{cases_Bool}
 use Rattle.hy_base.specs.declared.record.Mark.{Mark}
 use Rattle.hy_base.specs.Entry.{is_in_span}
 use Rattle.hy_base.specs.Marks.{lesser, dep}
+use Rattle.hy_base.proofs.MarkLemmas.{lesser_none, lesser_comm, lesser_assoc}
 use Rattle.hy_mark.specs.Orders.{known_if}
-
-pub lesser_none : (a : Option ℕ) → lesser a None ≡ a
-lesser_none None = refl
-lesser_none (Some a) = refl
-
-pub lesser_comm : (a b : Option ℕ) → lesser a b ≡ lesser b a
-lesser_comm None None = refl
-lesser_comm None (Some b) = refl
-lesser_comm (Some a) None = refl
-lesser_comm (Some a) (Some b) = ap Some (omega arith)
-
-pub lesser_assoc : (a b c : Option ℕ) → lesser (lesser a b) c ≡ lesser a (lesser b c)
-lesser_assoc None b c = refl
-lesser_assoc (Some a) None c = refl
-lesser_assoc (Some a) (Some b) None = refl
-lesser_assoc (Some a) (Some b) (Some c) = ap Some (omega arith)
 
 pub dep_cons : (m : Mark) (ms : List Mark) (key : ℕ) → dep (m ∷ ms) key ≡ lesser (known_if m.dependency (is_in_span key m.block)) (dep ms key)
 dep_cons m ms key = elim (cases_Bool (is_in_span key m.block)) [ inl t ↦ rw t refl | inr t ↦ rw t refl ]

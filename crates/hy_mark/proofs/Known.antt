@@ -4,8 +4,8 @@ use Rattle.std.specs.Prelude.{◌||◌}
 use Rattle.std.specs.List.{list_any}
 use Rattle.std.proofs.lemmas.List.Folds.{list_any_more}
 use Rattle.hy_base.specs.Marks.{lesser}
+use Rattle.hy_base.proofs.MarkLemmas.{lesser_comm}
 use Rattle.hy_mark.specs.Orders.{known_if}
-use Rattle.hy_mark.proofs.Deps.{lesser_comm}
 
 pub known_or : (d : ℕ) (a b : Bool) → lesser (known_if d b) (known_if d a) ≡ known_if d (a || b)
 known_or d true true = ap Some (omega arith)

@@ -1,4 +1,3 @@
-pub mod Facts
 pub mod Widths
 pub mod Covers
 pub mod Deps

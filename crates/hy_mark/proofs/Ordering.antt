@@ -2,17 +2,17 @@
 use Rattle.std.proofs.Common.{◌≡◌, ℕ, ◌<◌, ◌⊎◌, min, List, [], ◌∷◌, ◌++◌, append_assoc, Option, inl, inr, refl, sym, ap, ◌∙◌, subst, arith}
 use Rattle.std.specs.Prelude.{IsTrue, map}
 use Rattle.std.specs.List.{AllByRecursion}
-use Rattle.std.proofs.lemmas.Bool.{cases_lt, cases_order, lt-ltb, le-ltb, eq-eqb, ne_eqb}
+use Rattle.std.proofs.lemmas.Bool.{cases_lt, cases_order, lt-ltb, le-ltb, eq-eqb, ne_eqb, false≢true}
 use Rattle.std.proofs.lemmas.List.{append-nil}
 use Rattle.hy_base.specs.declared.record.Span.{Span}
 use Rattle.hy_base.specs.declared.record.Mark.{Mark}
 use Rattle.hy_base.specs.Entry.{span_before}
 use Rattle.hy_base.specs.Marks.{lesser, dep}
-use Rattle.hy_base.proofs.EachLemmas.{never}
+use Rattle.hy_base.proofs.MarkLemmas.{lesser_none, lesser_comm, lesser_assoc}
+use Rattle.hy_base.proofs.ListLemmas.{all_append, all_map, all_left, all_right}
 use Rattle.hy_mark.specs.Blocks.{IsBlock}
 use Rattle.hy_mark.specs.Orders.{IsBefore, AreOrdered, AreBlocks, ArePairs, IsFirstBlock}
-use Rattle.hy_mark.proofs.Facts.{all_append, all_map, all_left, all_right}
-use Rattle.hy_mark.proofs.Deps.{lesser_comm, lesser_assoc, lesser_none, dep_first, dep_append, dep_min, raise}
+use Rattle.hy_mark.proofs.Deps.{dep_first, dep_append, dep_min, raise}
 
 -- ---- the order
 
@@ -25,11 +25,11 @@ comes a b t =
       | inl e ↦
           elim (cases_lt a.hi b.hi) [
             | inl h ↦ inr (e, h)
-            | inr h ↦ never (rw (le-ltb a.lo b.lo (omega arith), eq-eqb a.lo b.lo e, le-ltb a.hi b.hi h) at t)
+            | inr h ↦ absurd (false≢true (rw (le-ltb a.lo b.lo (omega arith), eq-eqb a.lo b.lo e, le-ltb a.hi b.hi h) at t))
           ]
       | inr k ↦ elim k [
         | inl lt ↦ inl lt
-        | inr gt ↦ never (rw (le-ltb a.lo b.lo (omega arith), ne_eqb a.lo b.lo (λ e. omega arith)) at t)
+        | inr gt ↦ absurd (false≢true (rw (le-ltb a.lo b.lo (omega arith), ne_eqb a.lo b.lo (λ e. omega arith)) at t))
       ]
     ]
 

@@ -6,9 +6,9 @@ use Rattle.hy_base.specs.declared.record.Row.{Row}
 use Rattle.hy_base.specs.Lists.{put}
 use Rattle.hy_base.specs.declared.record.Write.{Write}
 use Rattle.hy_base.specs.Rows.{Each, IsOrdered, row_before, applied, newest, rows_at}
-use Rattle.hy_base.proofs.RowLemmas.{newest-append}
+use Rattle.hy_base.proofs.RowLemmas.{newest-append, put_first}
+use Rattle.hy_base.proofs.ListLemmas.{all_map, all_right}
 use Rattle.hy_mark.specs.Orders.{IsFirstRow}
-use Rattle.hy_mark.proofs.Facts.{all_map, all_right}
 
 -- a first row stays first
 pub applied_first : (x : Row) (rs ws : List Row) → Each (λ w. x.key < w.key) ws → applied (x ∷ rs) ws ≡ x ∷ applied rs ws
@@ -22,10 +22,6 @@ pub newest_same : (ws : List Row) → IsOrdered ws → applied [] ws ≡ ws
 newest_same [] o = refl
 newest_same (w ∷ ws) o = applied_first w [] ws o.0 ∙ ap (λ (rs : List Row). w ∷ rs) (newest_same ws o.1)
 
-put_before : (y : Row) (xs : List Row) → Each (λ x. y.key < x.key) xs → put row_before y xs ≡ y ∷ xs
-put_before y [] a = refl
-put_before y (x ∷ xs) a = rw (lt-ltb y.key x.key a.0) refl
-
 -- the rows that come after the first
 pub after_first : (x y : Row) (ys right : List Row) → right ≡ y ∷ ys → IsOrdered right → x.key < y.key → Each (λ w. x.key < w.key) right
 after_first x y ys right e o lt = let p = rw e at o in rw e (lt, all_map (λ (w : Row). y.key < w.key) (λ w. x.key < w.key) (λ w h. omega arith) ys p.0)
@@ -38,7 +34,7 @@ left_first x xs left right e ol or a =
 pub right_first : (y : Row) (ys left right : List Row) → right ≡ y ∷ ys → IsOrdered left → IsOrdered right → Each (λ x. y.key < x.key) left → IsFirstRow left right y left ys
 right_first y ys left right e ol or a =
     let p = rw e at or in
-    record { rows = rw (e, put_before y left a) (applied_first y left ys p.0); left_ordered = ol; right_ordered = p.1; shorter = rw e (omega arith) }
+    record { rows = rw (e, put_first y left a) (applied_first y left ys p.0); left_ordered = ol; right_ordered = p.1; shorter = rw e (omega arith) }
 
 pub both_first : (x y : Row) (xs ys left right : List Row) → left ≡ x ∷ xs → right ≡ y ∷ ys → x.key ≡ y.key → IsOrdered left → IsOrdered right → IsFirstRow left right y xs ys
 both_first x y xs ys left right e f same ol or =
@@ -66,10 +62,6 @@ pub places_all : {wl wr rs l r : List Row} → Places wl wr rs l r → l ≡ [] 
 places_all {wl} {wr} {rs} {l} {r} p e f = sym (append-nil rs) ∙ (rw (e, f) at p.all)
 
 -- ---- one row
-
-pub put_last : (x : Row) (xs : List Row) → Each (λ y. y.key < x.key) xs → put row_before x xs ≡ xs ++ x ∷ []
-put_last x [] h = refl
-put_last x (y ∷ xs) h = rw (le-ltb x.key y.key (omega (arith, h.0)), lt-ltb y.key x.key h.0, put_last x xs h.1) refl
 
 pub before_last : (xs : List Row) (last : Row) (key : ℕ) → IsOrdered (xs ++ last ∷ []) → last.key < key → Each (λ r. r.key < key) (xs ++ last ∷ [])
 before_last [] last key a lt = (lt, tt)

@@ -1,8 +1,8 @@
 -- Which marks hold a key, in the order of their blocks.
-use Rattle.std.proofs.Common.{◌≡◌, ◌⊎◌, ℕ, zero, suc, ◌+◌, ◌-◌, ◌*◌, ◌/◌, ◌%◌, ◌^◌, ◌<◌, ◌≤◌, Bool, true, false, ltb, List, [], ◌∷◌, length, get_or, take, Option, Some, None, refl, sym, ap, ◌∙◌, subst, arith, inl, inr, add-one}
+use Rattle.std.proofs.Common.{◌≡◌, ◌⊎◌, ℕ, zero, suc, ◌+◌, ◌-◌, ◌*◌, ◌/◌, ◌%◌, ◌^◌, ◌<◌, ◌≤◌, true, false, ltb, List, [], ◌∷◌, length, get_or, take, Option, Some, None, refl, sym, ap, ◌∙◌, subst, arith, inl, inr, add-one}
 use Rattle.std.specs.List.{AllByRecursion}
 use Rattle.std.specs.List.Sorted.{IsNonDecreasingBy, IsPartitionPoint}
-use Rattle.std.proofs.lemmas.Bool.{cases_Bool, cases_lt, leb-true, le-leb, ltb-true, ltb-false, and_parts, and_from, or_cases, eqb-true}
+use Rattle.std.proofs.lemmas.Bool.{cases_Bool, cases_lt, leb-true, le-leb, ltb-true, ltb-false, and_parts, and_from, or_cases, eqb-true, false_from_ne_true}
 use Rattle.std.proofs.lemmas.List.{take_more, take_all}
 use Rattle.std.proofs.lemmas.Nat.{div-add-mod', div-mul-add}
 use Rattle.std.proofs.Math.Nat.{two-pow-succ, mul-le-mul_right}
@@ -12,10 +12,11 @@ use Rattle.hy_base.specs.Entry.{is_in_span, span_before}
 use Rattle.hy_base.specs.declared.record.Row.{Row}
 use Rattle.hy_base.specs.Rows.{Each}
 use Rattle.hy_base.specs.Marks.{dep, lesser, clash}
+use Rattle.hy_base.proofs.MarkLemmas.{lesser_assoc}
 use Rattle.hy_mark.specs.Blocks.{IsBlock}
 use Rattle.hy_mark.specs.Orders.{IsBefore, AreOrdered, ArePairs}
 use Rattle.hy_mark.proofs.Widths.{aligned_less}
-use Rattle.hy_mark.proofs.Deps.{lesser_assoc, dep_last}
+use Rattle.hy_mark.proofs.Deps.{dep_last}
 use Rattle.hy_tree.specs.TreeRows.{InBlock, IsRow}
 use Rattle.hy_tree.proofs.Bits.{wider_same, half_power}
 use Rattle.hy_tree.proofs.Putting.{div_le}
@@ -110,10 +111,6 @@ all_miss xs r (suc n) d key le h =
     (last_misses xs (r + n) d key (omega arith) (h (r + n) (omega arith) (omega arith))
     ∙ all_miss xs r n d key (omega arith) (λ i low lt. h i low (omega arith)))
 
-not_true : (b : Bool) → (b ≡ true → ⊥) → b ≡ false
-not_true true h = absurd (h refl)
-not_true false h = refl
-
 missed : (xs : List Mark) (i j bound : ℕ) (d : Mark) (key : ℕ) → ArePairs xs → i ≤ j → j < length xs → is_in_span key (get_or xs j d).block ≡ false
     → ((b : Span) → IsBlock b → b.lo < (get_or xs j d).block.lo → is_in_span key b ≡ true → b.lo < bound)
     → bound ≤ (get_or xs i d).block.lo → is_in_span key (get_or xs i d).block ≡ true → ⊥
@@ -142,7 +139,7 @@ passed xs end bound r d key pairs some le miss low others cut =
     let less : r < end =
     elim (cases_lt r end) [ inl h ↦ h | inr h ↦ absurd (omega (arith, cut.0 (end - 1) d (omega arith) (omega arith))) ] in
     let each : (i : ℕ) → r ≤ i → i < end → is_in_span key (get_or xs i d).block ≡ false = λ i up lt.
-    not_true (is_in_span key (get_or xs i d).block) (λ t. missed xs i (end - 1) bound d key pairs (omega arith) (omega arith) miss others (cut.1 i d up (omega arith)) t) in
+    false_from_ne_true (is_in_span key (get_or xs i d).block) (λ t. missed xs i (end - 1) bound d key pairs (omega arith) (omega arith) miss others (cut.1 i d up (omega arith)) t) in
     let e : end ≡ r + (end - r) = omega arith in
     (less, subst (λ k. dep (take k xs) key ≡ dep (take r xs) key) (sym e) (all_miss xs r (end - r) d key (omega arith) (λ i up lt. each i up (omega arith))))
 
@@ -174,7 +171,7 @@ pub unmarked : (xs : List Mark) (lo hi next : ℕ) (d : Mark) → AreOrdered xs 
     → (next < length xs → hi < (get_or xs next d).block.lo) → dep xs lo ≡ None → (key : ℕ) → lo ≤ key → key ≤ hi → dep xs key ≡ None
 unmarked xs lo hi next d o cut behind e key low high =
     let each : (i : ℕ) → 0 ≤ i → i < 0 + length xs → is_in_span key (get_or xs i d).block ≡ false = λ i z lt.
-    not_true (is_in_span key (get_or xs i d).block) (λ t.
+    false_from_ne_true (is_in_span key (get_or xs i d).block) (λ t.
     let within = in_span key (get_or xs i d).block t in
     elim (cases_lt i next) [
       | inl h ↦

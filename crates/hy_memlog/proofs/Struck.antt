@@ -1,8 +1,9 @@
 -- What a stop leaves of an append.
-use Rattle.std.proofs.Common.{◌≡◌, ◌≢◌, ◌⊎◌, inl, inr, ◌∙◌, ℕ, ◌+◌, ◌-◌, ◌*◌, ◌<◌, ◌≤◌, Bool, true, false, List, [], ◌∷◌, ◌++◌, length, Some, None, ap, sym, subst, arith, refl}
-use Rattle.std.specs.Prelude.{Result, Ok, Err, is_ok, IfOk, nat_le, ◌==◌, ◌&&◌, replicate, if◌then◌else◌}
+use Rattle.std.proofs.Common.{◌≡◌, ◌≢◌, ◌⊎◌, inl, inr, ◌∙◌, ℕ, ◌+◌, ◌-◌, ◌*◌, ◌<◌, ◌≤◌, Bool, true, false, List, [], ◌∷◌, ◌++◌, length, Some, None, ap, sym, subst, arith}
+use Rattle.std.specs.Prelude.{Result, Ok, Err, is_ok, nat_le, ◌==◌, ◌&&◌, replicate, if◌then◌else◌}
 use Rattle.std.proofs.lemmas.List.{append-nil}
 use Rattle.std.proofs.lemmas.Bool.{cases_lt, cases_eq}
+use Rattle.std.proofs.Math.Bool.{and-false}
 use Rattle.hy_base.specs.declared.layout.Shape.{Shape}
 use Rattle.hy_base.specs.declared.workload.ArmedStop.{ArmedStop}
 use Rattle.hy_rules.specs.Moves.{is_kept}
@@ -66,11 +67,7 @@ struck shape bodies body stop result content is behind gate = elim (cases_lt sto
     late_drops : (s : ArmedStop) → s.pattern ≢ 1 → is_kept s ≡ false
     late_drops s other =
         let no : (s.pattern == 1) ≡ false = grind (arith, other) in
-        ap (λ (b : Bool). nat_le 3 s.call && b) no ∙ neither (nat_le 3 s.call)
-      where
-        neither : (b : Bool) → (b && false) ≡ false
-        neither true = refl
-        neither false = refl
+        ap (λ (b : Bool). nat_le 3 s.call && b) no ∙ and-false (nat_le 3 s.call)
 
     at_gate : AtGate shape bodies body result content → 3 ≤ stop.call → (stop.pattern ≡ 1) ⊎ (stop.pattern ≢ 1) → IsStruck shape bodies body stop result content
     at_gate g late (inl one) = record {
@@ -114,13 +111,6 @@ strike_leaves log armed body stop call result content ready some is_stop is same
     (λ early. behind more running call least (omega (arith, is, early)) strikes left)
     (λ late. gate more running call (omega (arith, is, late)) most strikes left))
 
-failed_is_not_ok : {A : Type 0} (r : Appended) → r ≡ Err appending.Device → is_ok r ≡ true → A
-failed_is_not_ok (Ok at) is ok = absurd (cc)
-failed_is_not_ok (Err e) is ok = absurd (cc)
-
 pub not_ok : {A : Type 0} (r : Appended) → r ≡ Err appending.Device → is_ok r ≡ true → A
-not_ok r is ok = failed_is_not_ok r is ok
-
-pub map_ok : {X E : Type 0} (P Q : X → Type 0) (r : Result X E) → ((x : X) → P x → Q x) → IfOk r P → IfOk r Q
-map_ok P Q (Ok x) each is = each x is
-map_ok P Q (Err e) each is = tt
+not_ok (Ok at) is ok = absurd (cc)
+not_ok (Err e) is ok = absurd (cc)

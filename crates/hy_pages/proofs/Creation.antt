@@ -8,9 +8,10 @@ use Rattle.hy_formats.specs.declared.damage.Damage.{Damage}
 use Rattle.hy_formats.specs.declared.damage.BadPage.{BadPage}
 use Rattle.hy_formats.specs.Reading.{◌>>=◌, AreBytes}
 use Rattle.hy_formats.specs.LogFormat.{header_rest, byte_at, header_in, on_page, records_in, is_unborn, Held, born_log_in, log_in}
+use Rattle.hy_formats.proofs.ByteLemmas.{AreBytes-drop, AreBytes-take}
 use Rattle.hy_pages.specs.Words.{IsTornHeader}
 use Rattle.hy_pages.specs.Laws.{ClosedIsUnborn, TornIsUnborn, UnbornIsOne, UnbornHoldsNothing, UnbornIsFront, HeaderIsRefused, NothingIsUnborn}
-use Rattle.hy_pages.proofs.Parts.{is_ok_is, part_of, take_bytes, drop_bytes, cases_result, ok_is, err_isnt_ok}
+use Rattle.hy_pages.proofs.Parts.{is_ok_is, part_of, cases_result, ok_is, err_isnt_ok}
 use Rattle.hy_pages.proofs.Headers.{header_is_read, header_is_one, header_is_first_page}
 
 -- behind a gate that isn't open stand the rest of a header and a closed gate
@@ -46,7 +47,7 @@ torn_from bytes are torn =
     let c = and_parts (is_ok (header_in (71 ∷ drop 1 bytes))) (byte_at bytes 256 == 0) b.1 in
     let long : 257 ≤ length bytes = leb-true 257 (length bytes) b.0 in
     let found = is_ok_is (header_in (71 ∷ drop 1 bytes)) c.0 in
-    let behind : AreBytes (take 255 (drop 1 bytes)) = subst AreBytes (part_of 256 1 255 255 bytes refl (omega arith)) (take_bytes 255 (drop 1 (take 256 bytes)) (drop_bytes 1 (take 256 bytes) are)) in
+    let behind : AreBytes (take 255 (drop 1 bytes)) = subst AreBytes (part_of 256 1 255 255 bytes refl (omega arith)) (AreBytes-take 255 (drop 1 (take 256 bytes)) (AreBytes-drop 1 (take 256 bytes) are)) in
     let one = header_is_one (71 ∷ drop 1 bytes) found.0 (gate_bytes 71 (take 255 (drop 1 bytes)) (omega arith) behind) found.1 in
     let front : take 255 (drop 1 bytes) ≡ header_rest found.0 = ap (drop 1) one.2 in
     let byte : byte_at bytes 256 ≡ 0 = eqb-true (byte_at bytes 256) 0 c.1 in

@@ -9,6 +9,7 @@ use Rattle.hy_base.specs.declared.record.Row.{Row}
 use Rattle.hy_base.specs.Shape.{IsGoodShape, IsWithin}
 use Rattle.hy_base.specs.Value.{IsValue}
 use Rattle.hy_base.specs.Rows.{Each, IsOrdered}
+use Rattle.hy_base.proofs.EachLemmas.{Each-map}
 use Rattle.hy_formats.specs.declared.damage.Damage.TheVariants as damage
 use Rattle.hy_formats.specs.Reading.{AreBytes, ◌>>=◌, requiring, items_at}
 use Rattle.hy_codec.proofs.Numbers.{ReaderTakes, then_takes, bind_ok, ok_is, required}
@@ -18,10 +19,6 @@ use Rattle.hy_formats.specs.PointFormat.{PointHead, IsStorable, row_bytes, flag_
 use Rattle.hy_points.proofs.Bases.{base_is_before}
 use Rattle.hy_points.proofs.Heads.{head_text, IsGoodHead, head_takes, head_again}
 use Rattle.hy_points.proofs.Rows.{IsGoodRow, row_takes, row_again, ordered_of, rises_of, any_order, IsFlag, flag_takes, flag_again, flags_rise, are_flags}
-
-each : {P Q : Row → Type 0} → ((r : Row) → P r → Q r) → (rows : List Row) → Each P rows → Each Q rows
-each f [] all = tt
-each f (r ∷ rows) all = (f r all.0, each f rows all.1)
 
 good_rows : (base : ℕ) (rows : List Row) → Each (λ r. r.key < 2 ^ 64) rows → Each (λ r. IsWithin 1 base r.writer) rows → Each (λ r. IfSome r.value IsValue) rows → Each (IsGoodRow base) rows
 good_rows base [] keys writers values = tt
@@ -51,11 +48,11 @@ made s h rows flags bytes rest shape good took n_rows n_flags rows_good ordered 
         within = good.within;
         base_is = good.base_is;
         ordered = ordered;
-        writers = each (λ r is. is.writer) rows rows_good;
+        writers = Each-map _ _ (λ r is. is.writer) rows rows_good;
         flag_each = omega (arith, n_flags, before);
       };
-      keys = each (λ r is. is.key) rows rows_good;
-      values = each (λ r is. is.value) rows rows_good;
+      keys = Each-map _ _ (λ r is. is.key) rows rows_good;
+      values = Each-map _ _ (λ r is. is.value) rows rows_good;
       count = omega (arith, n_rows, good.count);
     }
 

@@ -1,16 +1,16 @@
 -- A point's record: what is read is spelled so, and what is spelled is read again, whatever follows.
-use Rattle.std.proofs.Common.{◌≡◌, ℕ, zero, suc, ◌+◌, ◌-◌, ◌^◌, ◌<◌, ◌≤◌, Bool, true, false, cond, List, [], ◌∷◌, ◌++◌, length, take, drop, replicate, Result, Ok, Err, refl, sym, ap, subst, ◌∙◌, append_assoc, append-nil, arith, length-append, length-take, length-drop, take-append-drop}
-use Rattle.std.specs.Prelude.{IfOk, nat_lt, ◌==◌}
+use Rattle.std.proofs.Common.{◌≡◌, ℕ, ◌+◌, ◌-◌, ◌^◌, ◌<◌, ◌≤◌, Bool, true, false, cond, List, ◌∷◌, ◌++◌, length, take, drop, replicate, Result, Ok, Err, refl, sym, ap, subst, ◌∙◌, append_assoc, append-nil, arith, length-append, length-take, length-drop, take-append-drop}
+use Rattle.std.specs.Prelude.{IfOk, nat_lt}
 use Rattle.std.specs.Int.{w64, to_le_bytes, from_le_bytes}
-use Rattle.std.proofs.lemmas.Bool.{eqb-true, ltb-false, le-ltb}
+use Rattle.std.proofs.lemmas.Bool.{ltb-false, le-ltb}
 use Rattle.std.proofs.lemmas.List.{take_at, drop_at, drop_more, drop-drop, length-replicate}
 use Rattle.hy_base.specs.declared.layout.Shape.{Shape}
 use Rattle.hy_base.specs.Shape.{IsGoodShape}
 use Rattle.hy_formats.specs.declared.damage.Damage.TheVariants as damage
 use Rattle.hy_formats.specs.Reading.{AreBytes, Refusal, ◌>>=◌}
 use Rattle.hy_formats.specs.LogFormat.{are_zeros, byte_at}
-use Rattle.hy_codec.proofs.Values.{both}
-use Rattle.hy_codec.proofs.Numbers.{AreBytes-drop, AreBytes-take, bind_ok, ok_is, wide64}
+use Rattle.hy_formats.proofs.ByteLemmas.{AreBytes-drop, AreBytes-take, are_zeros-true, zeros_are_zeros}
+use Rattle.hy_codec.proofs.Numbers.{bind_ok, ok_is, wide64}
 use Rattle.hy_formats.specs.declared.damage.BadPoint.{BadPoint}
 use Rattle.hy_points.specs.declared.error.PointError.{PointError}
 use Rattle.hy_points.specs.declared.error.PointError.TheVariants as pointing
@@ -34,17 +34,6 @@ met false e x y h = absurd cc
 placed_ok : (len : ℕ) (read : Result Checkpoint Refusal) (c : Checkpoint) → point_placed len read ≡ Ok c → read ≡ Ok c
 placed_ok len (Ok x) c h = ap (λ (k : Checkpoint). Ok k) (ok_is x c h)
 placed_ok len (Err r) c h = absurd cc
-
-zeros_are : (n : ℕ) → are_zeros (replicate n 0) ≡ true
-zeros_are zero = refl
-zeros_are (suc n) = zeros_are n
-
-are_zeros_is : (bytes : List ℕ) → are_zeros bytes ≡ true → bytes ≡ replicate (length bytes) 0
-are_zeros_is [] h = refl
-are_zeros_is (byte ∷ bytes) h =
-    let p = both (byte == 0) (are_zeros bytes) h in
-    let first = eqb-true byte 0 p.0 in
-    let rest = are_zeros_is bytes p.1 in λ i. first i ∷ rest i
 
 -- the record has room for its body
 pub room_for : (len : ℕ) → 9 + len ≤ point_record_size len
@@ -80,7 +69,7 @@ point_takes s bytes c shape are gate long e =
     let z : ℕ = point_record_size n - (9 + n) in
     let fill : List ℕ = take z (drop (9 + n) bytes) in
     let fill_size : length fill ≡ z = omega (arith, length-take z (drop (9 + n) bytes), length-drop (9 + n) bytes, within, room) in
-    let zeros : fill ≡ replicate z 0 = are_zeros_is fill (met (are_zeros fill) (record { place = 9 + n; why = damage.Fill }) tt d.0 d.1) ∙ ap (λ (k : ℕ). replicate k 0) fill_size in
+    let zeros : fill ≡ replicate z 0 = are_zeros-true fill (met (are_zeros fill) (record { place = 9 + n; why = damage.Fill }) tt d.0 d.1) ∙ ap (λ (k : ℕ). replicate k 0) fill_size in
     let more : List ℕ = drop (9 + n + z) bytes in
     let word_size : length word ≡ 8 = omega (arith, length-take 8 (drop 1 bytes), length-drop 1 bytes, long) in
     let word_is : word ≡ to_le_bytes w64 n = sym (wide64.back word word_size (AreBytes-take 8 (drop 1 bytes) (AreBytes-drop 1 bytes are))) ∙ ap (to_le_bytes w64) told.1 in
@@ -130,7 +119,7 @@ point_again c more is fits =
     let told : body_len_in bytes ≡ Ok n = ap (λ (k : ℕ). cond (nat_lt (length bytes) (point_record_size k)) (Err (record { place = 1; why = damage.Short })) (Ok k)) len_is ∙ ap (λ (b : Bool). cond b (Err (record { place = 1; why = damage.Short })) (Ok n)) long in
     let body_is : take n (drop 9 bytes) ≡ body = ap (take n) behind ∙ take_at body (zeros ++ more) n refl in
     let fill_is : take z (drop (9 + n) bytes) ≡ zeros = ap (take z) (sym (drop-drop n 9 bytes) ∙ ap (drop n) behind ∙ drop_at body (zeros ++ more) n refl) ∙ take_at zeros more z zeros_size in
-    let filled : filled_in n bytes ≡ Ok tt = ap (λ (b : Bool). cond b (Ok tt) (Err (record { place = 9 + n; why = damage.Fill }))) (ap are_zeros fill_is ∙ zeros_are z) in
+    let filled : filled_in n bytes ≡ Ok tt = ap (λ (b : Bool). cond b (Ok tt) (Err (record { place = 9 + n; why = damage.Fill }))) (ap are_zeros fill_is ∙ zeros_are_zeros z) in
     point_by c.shape bytes body n c told body_is (whole_again c is fits) filled
 
 -- ---- what a call that decodes gives

@@ -3,16 +3,16 @@ use Rattle.std.proofs.Common.{◌≡◌, ℕ, ◌^◌, ◌<◌, ◌≤◌, Bool,
 use Rattle.std.specs.Prelude.{IfSome, nat_lt, ◌==◌}
 use Rattle.std.specs.List.{AllByRecursion}
 use Rattle.std.specs.Int.{w8, w32, w64, to_le_bytes}
-use Rattle.std.proofs.lemmas.Bool.{eqb-true}
+use Rattle.std.proofs.lemmas.Bool.{eqb-true, and_parts, lt-ltb, ltb-true}
 use Rattle.hy_base.specs.declared.record.Row.{Row}
 use Rattle.hy_base.specs.Shape.{IsWithin}
 use Rattle.hy_base.specs.Value.{IsValue}
 use Rattle.hy_base.specs.Rows.{Each, IsOrdered}
+use Rattle.hy_base.proofs.ShapeLemmas.{is_within-true}
 use Rattle.hy_formats.specs.declared.damage.Damage.TheVariants as damage
 use Rattle.hy_formats.specs.Reading.{AreBytes, ◌>>=◌, ranged_at, may_follow}
 use Rattle.hy_formats.specs.EntryFormat.{value_bytes, key_at, value_at}
-use Rattle.hy_codec.proofs.Values.{both}
-use Rattle.hy_codec.proofs.Numbers.{ReaderTakes, then_takes, bind_ok, ok_is, wide32, ranged_takes, ranged_again, within_is, is_within_of, byte_takes, byte_again}
+use Rattle.hy_codec.proofs.Numbers.{ReaderTakes, then_takes, bind_ok, ok_is, wide32, ranged_takes, ranged_again, is_within_of, byte_takes, byte_again}
 use Rattle.hy_codec.proofs.Items.{rises_from}
 use Rattle.hy_codec.proofs.Parts.{key_takes, key_again, value_takes, value_again}
 use Rattle.hy_formats.specs.PointFormat.{row_bytes, flag_bytes, saved_row_at, flag_at}
@@ -37,7 +37,7 @@ row_takes base last bytes x fits e =
     let u = ranged_takes w32 (2 ^ 32) wide32 1 base damage.Writer a.0.1 b.0 t.0.rest_fits b.1 in
     let v = value_takes b.0.1 c.0 u.0.rest_fits c.1 in
     let r : Row = record { key = a.0.0; writer = b.0.0; value = c.0.0 } in
-    let good : IsGoodRow base r = record { key = t.1; writer = within_is 1 base r.writer u.2; value = v.1 } in
+    let good : IsGoodRow base r = record { key = t.1; writer = is_within-true 1 base r.writer u.2; value = v.1 } in
     let tail = then_takes a.0.1 (to_le_bytes w32 r.writer) b.0.1 (value_bytes r.value) c.0.1 u.0 v.0 in
     subst (RowTakes base last bytes) (ok_is (r, c.0.1) x c.2) (then_takes bytes (to_le_bytes w64 r.key) a.0.1 (to_le_bytes w32 r.writer ++ value_bytes r.value) c.0.1 t.0 tail, good, t.2)
 
@@ -52,12 +52,6 @@ row_again base few r last rest good follows =
 
 -- ---- the order of rows
 
-lt_of : (m n : ℕ) → nat_lt m n ≡ true → m < n
-lt_of m n e = grind (arith, e)
-
-of_lt : (m n : ℕ) → m < n → nat_lt m n ≡ true
-of_lt m n lt = grind (arith, lt)
-
 each_above : (low high : ℕ) (rows : List Row) → low < high → Each (λ r. high < r.key) rows → Each (λ r. low < r.key) rows
 each_above low high [] less above = tt
 each_above low high (r ∷ rows) less above = (omega (arith, less, above.0), each_above low high rows less above.1)
@@ -68,13 +62,13 @@ rises last rows = rises_from nat_lt (λ r. r.key) last rows
 all_above : (key : ℕ) (rows : List Row) → rises (Some key) rows ≡ true → Each (λ r. key < r.key) rows
 all_above key [] e = tt
 all_above key (r ∷ rows) e =
-    let p = both (nat_lt key r.key) (rises (Some r.key) rows) e in
-    let less = lt_of key r.key p.0 in
+    let p = and_parts (nat_lt key r.key) (rises (Some r.key) rows) e in
+    let less = ltb-true key r.key p.0 in
     (less, each_above key r.key rows less (all_above r.key rows p.1))
 
 ordered_behind : (key : ℕ) (rows : List Row) → rises (Some key) rows ≡ true → IsOrdered rows
 ordered_behind key [] e = tt
-ordered_behind key (r ∷ rows) e = let p = both (nat_lt key r.key) (rises (Some r.key) rows) e in (all_above r.key rows p.1, ordered_behind r.key rows p.1)
+ordered_behind key (r ∷ rows) e = let p = and_parts (nat_lt key r.key) (rises (Some r.key) rows) e in (all_above r.key rows p.1, ordered_behind r.key rows p.1)
 
 pub ordered_of : (rows : List Row) → rises None rows ≡ true → IsOrdered rows
 ordered_of [] e = tt
@@ -82,7 +76,7 @@ ordered_of (r ∷ rows) e = (all_above r.key rows e, ordered_behind r.key rows e
 
 rises_behind : (key : ℕ) (rows : List Row) → Each (λ r. key < r.key) rows → IsOrdered rows → rises (Some key) rows ≡ true
 rises_behind key [] above ordered = refl
-rises_behind key (r ∷ rows) above ordered = rw (of_lt key r.key above.0, rises_behind r.key rows ordered.0 ordered.1) refl
+rises_behind key (r ∷ rows) above ordered = rw (lt-ltb key r.key above.0, rises_behind r.key rows ordered.0 ordered.1) refl
 
 pub rises_of : (rows : List Row) → IsOrdered rows → rises None rows ≡ true
 rises_of [] ordered = refl

@@ -1,5 +1,5 @@
 -- What is checked in advance, on the rows at the base.
-use Rattle.std.proofs.Common.{◌≡◌, ℕ, Bool, true, false, cond, List, [], ◌∷◌, Option, Some, None, refl, ap, ◌∙◌}
+use Rattle.std.proofs.Common.{◌≡◌, ℕ, Bool, true, false, cond, List, [], ◌∷◌, Some, None, refl, ap, ◌∙◌}
 use Rattle.std.specs.Prelude.{◌&&◌, nat_le, nat_lt}
 use Rattle.hy_base.specs.declared.record.Row.{Row}
 use Rattle.hy_base.specs.declared.record.Intention.{Intention}
@@ -7,15 +7,11 @@ use Rattle.hy_base.specs.Entry.{touches}
 use Rattle.hy_base.specs.Rows.{WritersRise, newest, up_to}
 use Rattle.hy_base.specs.Marks.{dep, first_late, late, is_past, known_to}
 use Rattle.hy_base.proofs.EachLemmas.{rise_filter}
+use Rattle.hy_base.proofs.MarkLemmas.{same_late}
 use Rattle.hy_rules.specs.History.{written_between}
 use Rattle.hy_rules.specs.Validation.{first_clash, touched}
 use Rattle.hy_rolling.specs.Laws.{AdvanceIsPre}
 use Rattle.hy_rolling.proofs.LastWriters.{by_last_writers}
-
--- what is known decides alone
-pub same_known : (k k' : ℕ → Option ℕ) → ((key : ℕ) → k key ≡ k' key) → (rows : List Row) → first_late k rows ≡ first_late k' rows
-same_known k k' f [] = refl
-same_known k k' f (r ∷ rows) = λ i. cond (is_past (f r.key i) r.writer) (Some (record { key = r.key; by = r.writer })) (same_known k k' f rows i)
 
 pub past_known : (t : Bool) (pos writer : ℕ) → is_past (cond t (Some pos) None) writer ≡ (t && nat_lt pos writer)
 past_known true pos writer = refl
@@ -41,4 +37,4 @@ advance_known committed base pos i rise =
 
 pub advance_is_pre : AdvanceIsPre
 advance_is_pre committed base i m writes rise are =
-    same_known (dep m.pairs) (known_to i.snap i) are.deps (newest (up_to base committed)) ∙ advance_known committed base i.snap i rise
+    same_late (dep m.pairs) (known_to i.snap i) are.deps (newest (up_to base committed)) ∙ advance_known committed base i.snap i rise

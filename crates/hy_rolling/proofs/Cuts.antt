@@ -1,5 +1,5 @@
 -- Rolls that are cut in two, and rows that grow.
-use Rattle.std.proofs.Common.{◌≡◌, ℕ, zero, suc, ◌+◌, ◌*◌, ◌<◌, ◌≤◌, cond, List, [], ◌∷◌, ◌++◌, length, take, drop, refl, sym, ap, ◌∙◌, subst, arith, inl, inr, length-take, length-drop}
+use Rattle.std.proofs.Common.{◌≡◌, ℕ, zero, suc, ◌+◌, ◌*◌, ◌/◌, ◌%◌, ◌<◌, ◌≤◌, cond, List, [], ◌∷◌, ◌++◌, length, take, drop, refl, sym, ap, ◌∙◌, subst, arith, inl, inr, length-take, length-drop}
 use Rattle.std.proofs.lemmas.List.{drop-append-le, take-append-le}
 use Rattle.std.proofs.Math.Nat.{mul-suc}
 use Rattle.hy_base.specs.declared.layout.Shape.{Shape}
@@ -11,11 +11,12 @@ use Rattle.hy_base.specs.Shape.{IsGoodShape, base_groups, kept_groups}
 use Rattle.hy_base.specs.Rows.{Each, IsOrdered, newest}
 use Rattle.hy_base.specs.Later.{Later}
 use Rattle.hy_base.proofs.EachLemmas.{Each-map}
+use Rattle.hy_base.proofs.GroupLemmas.{whole_count}
 use Rattle.hy_base.proofs.ShapeLemmas.{base_before, kept_before}
 use Rattle.hy_base.proofs.RowLemmas.{ordered_applied, ordered_newest, Each-applied, Each-newest, newest-append, later_applied, later_same}
 use Rattle.hy_rules.specs.History.{history_from}
 use Rattle.hy_rules.specs.Validation.{Standing, joined_writes, group_writes, verdicts_after, history_after, rows_after}
-use Rattle.hy_rolling.specs.Rolling.{staged_as, staged_members, fate_on, after_fate, Rolled, staged_next, finished, roll_group, roll_groups, AreWritten, IsRolled}
+use Rattle.hy_rolling.specs.Rolling.{staged_as, staged_members, fate_on, after_fate, Roll, Rolled, rolled_upto, staged_next, finished, roll_group, roll_groups, roll_on, AreWritten, IsRolled}
 use Rattle.hy_rolling.specs.Laws.{AnyCutRollsTheSame, StandingIsLater, RollKeepsLater}
 use Rattle.hy_rules.proofs.Groups.{times_more}
 use Rattle.hy_rules.proofs.Serial.{history_from_low, history_is_before}
@@ -143,3 +144,10 @@ rolls_keep s (suc k) r entries good is =
 pub rolled_groups : (s : Shape) (k : ℕ) (r : Rolled) (entries : List EntryKind) → (roll_groups s k r entries).groups ≡ r.groups + k
 rolled_groups s zero r entries = omega arith
 rolled_groups s (suc k) r entries = let rest = rolled_groups s k (roll_group s r (take s.group entries)) (drop s.group entries) in omega (arith, rest)
+
+pub rolled_on : (r : Roll) (entries : List EntryKind) → length entries % r.shape.group ≡ 0 → rolled_upto (roll_on r entries) ≡ rolled_upto r + length entries
+rolled_on r entries whole =
+    let g = r.shape.group in
+    let n = whole_count g (length entries) whole in
+    let k = rolled_groups r.shape (length entries / g) r.rolled entries in
+    ap (λ (m : ℕ). g * m) k ∙ (let e : g * (r.rolled.groups + length entries / g) ≡ g * r.rolled.groups + length entries = omega (arith, n) in e)

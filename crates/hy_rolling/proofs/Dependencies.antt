@@ -1,24 +1,15 @@
 -- What the marks of more members know.
-use Rattle.std.proofs.Common.{◌≡◌, ℕ, ◌+◌, Bool, true, false, cond, min, max, List, [], ◌∷◌, ◌++◌, length, Option, Some, None, refl, sym, ap, ◌∙◌, arith, append_assoc}
+use Rattle.std.proofs.Common.{◌≡◌, ℕ, ◌+◌, Bool, true, false, cond, max, List, [], ◌∷◌, ◌++◌, length, Some, None, refl, sym, ap, ◌∙◌, arith, append_assoc}
 use Rattle.std.proofs.lemmas.List.{append-nil}
 use Rattle.std.specs.Prelude.{option_map}
 use Rattle.hy_base.specs.Entry.{touches}
 use Rattle.hy_base.specs.Rows.{rows_at, applied, newest}
 use Rattle.hy_base.specs.Marks.{MarkSet, lesser}
 use Rattle.hy_base.proofs.RowLemmas.{newest-append, applied_newest, ordered_newest}
+use Rattle.hy_base.proofs.MarkLemmas.{lesser_assoc, lesser_none}
 use Rattle.hy_rules.specs.Validation.{Standing, Filling, Dropped, Joined, joined_writes, group_writes}
 use Rattle.hy_rolling.specs.Rolling.{known_of, least_known, AreGroupMarks}
 use Rattle.hy_rolling.specs.Laws.{RaisedKnow, EmptyGroup, JoinedGroup, SkippedGroup}
-
-lesser_assoc : (a b c : Option ℕ) → lesser (lesser a b) c ≡ lesser a (lesser b c)
-lesser_assoc None b c = refl
-lesser_assoc (Some a) None c = refl
-lesser_assoc (Some a) (Some b) None = refl
-lesser_assoc (Some a) (Some b) (Some c) = let e : min (min a b) c ≡ min a (min b c) = omega arith in ap (λ n. Some n) e
-
-lesser_none : (a : Option ℕ) → lesser a None ≡ a
-lesser_none None = refl
-lesser_none (Some a) = refl
 
 pub raised_known : (base pos : ℕ) (b : Bool) → option_map (λ d. max d base) (cond b (Some pos) None) ≡ cond b (Some (max pos base)) None
 raised_known base pos true = refl

@@ -3,6 +3,7 @@ use Rattle.std.proofs.Common.{◌≡◌, ℕ, ◌+◌, ◌≤◌, ◌⊎◌, Boo
 use Rattle.std.proofs.lemmas.List.{append-nil}
 use Rattle.std.specs.Prelude.{flat_map, map, IsTrue, ◌||◌}
 use Rattle.std.specs.List.{list_any}
+use Rattle.std.proofs.lemmas.Bool.{false≢true}
 use Rattle.hy_base.specs.declared.record.Row.{Row}
 use Rattle.hy_base.specs.declared.record.Intention.{Intention}
 use Rattle.hy_base.specs.declared.record.EntryKind.{EntryKind}
@@ -12,8 +13,9 @@ use Rattle.hy_base.specs.declared.record.Verdict.{Verdict}
 use Rattle.hy_base.specs.declared.record.Verdict.TheVariants.{Commit, Pre, Mate, Final}
 use Rattle.hy_base.specs.Rows.{Each, WritersRise, applied, newest}
 use Rattle.hy_base.specs.Marks.{lesser, dep, is_past, late, first_late, known_to}
-use Rattle.hy_base.proofs.EachLemmas.{never, Each-append, Each-map, Each-both, Each-filter}
+use Rattle.hy_base.proofs.EachLemmas.{Each-append, Each-map, Each-both, Each-filter}
 use Rattle.hy_base.proofs.RowLemmas.{newest-append, applied_newest, ordered_newest}
+use Rattle.hy_base.proofs.MarkLemmas.{same_late}
 use Rattle.hy_rules.proofs.Growth.{all_up_to}
 use Rattle.hy_rules.specs.History.{written_between, history_from}
 use Rattle.hy_rules.specs.Validation.{Standing, Filling, Dropped, Joined, touched, first_clash, dropped_or_joined, joined_writes, group_writes, standings, late_conflicts, fate_of, fated}
@@ -22,7 +24,7 @@ use Rattle.hy_rolling.specs.Rolling.{known_of, least_known, after_fate}
 use Rattle.hy_rolling.specs.Laws.{FinishIsFate, FinishIsRows}
 use Rattle.hy_rules.proofs.Groups.{first_clash-append}
 use Rattle.hy_rolling.proofs.LastWriters.{by_last_writers, Reaches, reached_more, late_own, same_first}
-use Rattle.hy_rolling.proofs.Advance.{same_known, late_is_touched}
+use Rattle.hy_rolling.proofs.Advance.{late_is_touched}
 
 none_late : (rows : List Row) → late (λ key. None) rows ≡ []
 none_late [] = refl
@@ -35,13 +37,13 @@ member_late committed base upto (Joined i) a =
     sym (late_is_touched i (max i.snap base) upto committed) ∙ ap (late (known_to (max i.snap base) i)) (all_up_to upto committed a)
 
 past_left : (a b : Option ℕ) (w : ℕ) → IsTrue (is_past a w) → IsTrue (is_past (lesser a b) w)
-past_left None b w h = never h
+past_left None b w h = absurd (false≢true h)
 past_left (Some a) None w h = h
 past_left (Some a) (Some b) w h = grind arith
 
 past_right : (a b : Option ℕ) (w : ℕ) → IsTrue (is_past b w) → IsTrue (is_past (lesser a b) w)
 past_right None b w h = h
-past_right (Some a) None w h = never h
+past_right (Some a) None w h = absurd (false≢true h)
 past_right (Some a) (Some b) w h = grind arith
 
 past_either : (a b : Option ℕ) (w : ℕ) → IsTrue (is_past (lesser a b) w) → IsTrue (is_past a w) ⊎ IsTrue (is_past b w)
@@ -54,7 +56,7 @@ reaches_right [] ys r h = h
 reaches_right (x ∷ xs) ys r h = reached_more r x (xs ++ ys) (reaches_right xs ys r h)
 
 any_left : {X : Type 0} (p : X → Bool) (xs ys : List X) → IsTrue (list_any p xs) → IsTrue (list_any p (xs ++ ys))
-any_left p [] ys h = never h
+any_left p [] ys h = absurd (false≢true h)
 any_left p (x ∷ xs) ys h = or_case (p x) (list_any p xs) (list_any p (xs ++ ys)) h (any_left p xs ys)
   where
     or_case : (a b c : Bool) → IsTrue (a || b) → (IsTrue b → IsTrue c) → IsTrue (a || c)
@@ -94,7 +96,7 @@ pub fate_known : (committed : List Row) (base upto : ℕ) (ms : List Standing) �
 fate_known committed base upto ms rise bounded = by_last_writers (least_known base ms) committed rise ∙ sym (members_late committed base upto ms bounded)
 
 pub finish_is_fate : FinishIsFate
-finish_is_fate committed base pos upto ms m rise bounded are = same_known (dep m.pairs) (least_known base ms) are.deps (newest committed) ∙ fate_known committed base upto ms rise bounded
+finish_is_fate committed base pos upto ms m rise bounded are = same_late (dep m.pairs) (least_known base ms) are.deps (newest committed) ∙ fate_known committed base upto ms rise bounded
 
 -- ---- the rows
 

@@ -2,12 +2,13 @@
 use Rattle.std.proofs.Common.{◌≡◌, ℕ, ◌<◌, ◌≤◌, ◌⊎◌, Bool, true, false, cond, List, [], ◌∷◌, Option, Some, None, refl, sym, ap, ◌∙◌, subst, arith}
 use Rattle.std.specs.Prelude.{IsTrue, ◌||◌, ◌&&◌, ◌==◌, nat_le}
 use Rattle.std.specs.List.{list_any}
+use Rattle.std.proofs.lemmas.Bool.{false≢true}
 use Rattle.hy_base.specs.declared.record.Row.{Row}
 use Rattle.hy_base.specs.declared.record.Clash.{Clash}
 use Rattle.hy_base.specs.Lists.{put}
 use Rattle.hy_base.specs.Rows.{Each, IsOrdered, WritersRise, row_before, applied, newest}
 use Rattle.hy_base.specs.Marks.{is_past, late, first_late}
-use Rattle.hy_base.proofs.EachLemmas.{never, Each-map, Each-filter}
+use Rattle.hy_base.proofs.EachLemmas.{Each-map, Each-filter}
 use Rattle.hy_base.proofs.RowLemmas.{Each-newest, ordered_newest}
 use Rattle.hy_rules.specs.Validation.{first_clash, earlier, comes_first}
 use Rattle.hy_rules.specs.Laws.{NotBefore, is_of}
@@ -31,7 +32,7 @@ pick_case p P Q x xs false e f here h later = later h
 
 -- of the rows one passes the test, and what holds of each holds of it
 pick : (p : Row → Bool) (P : Row → Type 0) (Q : Type 0) → ((r : Row) → p r ≡ true → P r → Q) → (xs : List Row) → IsTrue (list_any p xs) → Each P xs → Q
-pick p P Q f [] h a = never h
+pick p P Q f [] h a = absurd (false≢true h)
 pick p P Q f (x ∷ xs) h a = pick_case p P Q x xs (p x) refl f a.0 h (λ h'. pick p P Q f xs h' a.1)
 
 reach_before : (c d : Clash) (r s : Row) → is_of c r ≡ true → is_reached r s ≡ true → NotBefore d s → precedes d c
@@ -54,7 +55,7 @@ same_clash c d p q =
 
 none_reached : (xs : List Row) → Each (Reaches []) xs → first_clash xs ≡ None
 none_reached [] a = refl
-none_reached (x ∷ xs) a = never a.0
+none_reached (x ∷ xs) a = absurd (false≢true a.0)
 
 same_first_of : (xs ys : List Row) (o p : Option Clash) → first_clash xs ≡ o → first_clash ys ≡ p → Each (Reaches ys) xs → Each (Reaches xs) ys → o ≡ p
 same_first_of xs ys None None ex ey a b = refl
@@ -79,7 +80,7 @@ reached_more r s xs h = any_more (is_reached r s) (list_any (is_reached r) xs) h
 
 -- what is reached is reached still where a row is put that is no older than it
 reached_put : (r w : Row) (xs : List Row) → r.writer ≤ w.writer → Reaches xs r → Reaches (put row_before w xs) r
-reached_put r w [] up h = never h
+reached_put r w [] up h = absurd (false≢true h)
 reached_put r w (x ∷ xs) up h = put_case (row_before w x) (row_before x w) refl refl (λ t. reached_put r w xs up t)
   where
     either : (a b : Bool) (Q : Type 0) → IsTrue (a || b) → (a ≡ true → Q) → (IsTrue b → Q) → Q
@@ -118,7 +119,7 @@ all_reached found (w ∷ rows) rise = (reached_applied w (put row_before w found
 
 -- of one key, a row no older than a late one is late
 late_reached : (known : ℕ → Option ℕ) (r : Row) (xs : List Row) → IsTrue (is_past (known r.key) r.writer) → Reaches xs r → Reaches (late known xs) r
-late_reached known r [] past h = never h
+late_reached known r [] past h = absurd (false≢true h)
 late_reached known r (x ∷ xs) past h = late_case (is_reached r x) (is_past (known x.key) x.writer) refl refl h (λ t. late_reached known r xs past t)
   where
     past_up : (o : Option ℕ) (v w : ℕ) → v ≤ w → IsTrue (is_past o v) → IsTrue (is_past o w)
@@ -129,7 +130,7 @@ late_reached known r (x ∷ xs) past h = late_case (is_reached r x) (is_past (kn
     late_case true true e f h rest = let u : (x.key ≡ r.key) × (r.writer ≤ x.writer) = (grind arith, grind arith) in reached_of r x (late known xs) u.0 u.1
     late_case true false e f h rest =
         let u : (x.key ≡ r.key) × (r.writer ≤ x.writer) = (grind arith, grind arith) in
-        never (sym f ∙ past_up (known x.key) r.writer x.writer u.1 (subst (λ k. IsTrue (is_past (known k) r.writer)) (sym u.0) past))
+        absurd (false≢true (sym f ∙ past_up (known x.key) r.writer x.writer u.1 (subst (λ k. IsTrue (is_past (known k) r.writer)) (sym u.0) past)))
     late_case false true e f h rest = reached_more r x (late known xs) (rest h)
     late_case false false e f h rest = rest h
 

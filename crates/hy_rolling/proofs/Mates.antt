@@ -11,12 +11,13 @@ use Rattle.hy_base.specs.Rows.{Each, WritersRise, newest, up_to}
 use Rattle.hy_base.specs.Marks.{lesser, dep, late, first_late, known_to}
 use Rattle.hy_base.proofs.EachLemmas.{Each-append, Each-map, rise_append}
 use Rattle.hy_base.proofs.RowLemmas.{Each-newest}
+use Rattle.hy_base.proofs.MarkLemmas.{same_late}
 use Rattle.hy_rules.proofs.Growth.{same_rise}
 use Rattle.hy_rules.specs.Validation.{Standing, Filling, Dropped, Joined, touched, first_clash, dropped_or_joined, joined_writes, group_writes, standing_of, standings}
 use Rattle.hy_rolling.specs.Rolling.{staged_as, staged_members, known_of, least_known}
 use Rattle.hy_rolling.specs.Laws.{JoinIsMate, SnapsUpTo, StagedAreStandings, GroupMarksAreOwn}
 use Rattle.hy_rolling.proofs.LastWriters.{by_last_writers}
-use Rattle.hy_rolling.proofs.Advance.{same_known, past_known, advance_known}
+use Rattle.hy_rolling.proofs.Advance.{past_known, advance_known}
 use Rattle.hy_rules.proofs.Serial.{rows_at_pos}
 
 -- where all are past the position, the late ones are those touched
@@ -32,7 +33,7 @@ mate_known : (joined : List Row) (pos : ℕ) (i : Intention) → WritersRise joi
 mate_known joined pos i rise above = by_last_writers (known_to pos i) joined rise ∙ ap first_clash (all_late i pos joined above)
 
 pub join_is_mate : JoinIsMate
-join_is_mate joined pos i m writes rise above are = same_known (dep m.pairs) (known_to pos i) are.deps (newest joined) ∙ mate_known joined pos i rise above
+join_is_mate joined pos i m writes rise above are = same_late (dep m.pairs) (known_to pos i) are.deps (newest joined) ∙ mate_known joined pos i rise above
 
 -- ---- the members of a group
 

@@ -8,12 +8,12 @@ use Rattle.hy_base.specs.declared.layout.Shape.{Shape}
 use Rattle.hy_base.specs.declared.record.EntryKind.{EntryKind}
 use Rattle.hy_base.specs.declared.record.Row.{Row}
 use Rattle.hy_base.specs.declared.record.Clash.{Clash}
-use Rattle.hy_base.specs.Shape.{IsGoodShape, base_groups, kept_groups}
+use Rattle.hy_base.specs.Shape.{IsGoodShape, IsWithin, base_groups, kept_groups}
 use Rattle.hy_base.specs.Log.{HaveLawfulSnaps}
-use Rattle.hy_base.specs.Rows.{newest, up_to}
+use Rattle.hy_base.specs.Rows.{Each, newest, up_to}
 use Rattle.hy_base.proofs.ShapeLemmas.{base_before, kept_before}
 use Rattle.hy_rules.specs.Validation.{Standing, first_clash, group_writes, standings, late_conflicts, fate_of, fated, group_after, verdicts_after, history_after, rows_after}
-use Rattle.hy_rolling.specs.Rolling.{staged_members, fate_on, after_fate, Rolled, not_rolled, roll_group, roll_groups, HasRolled}
+use Rattle.hy_rolling.specs.Rolling.{staged_members, fate_on, after_fate, Rolled, not_rolled, roll_group, roll_groups, AreWritten, HasRolled}
 use Rattle.hy_rolling.specs.Laws.{SnapsUpTo, NewRollerStands, RollExtends, StandingIsOne}
 use Rattle.hy_rolling.proofs.Mates.{staged_are_standings}
 use Rattle.hy_rolling.proofs.Fates.{fate_known, fated_rows}
@@ -160,3 +160,8 @@ roll_extends s front es (suc k) r good snaps size st =
     let later : HaveLawfulSnaps s (length (front ++ part)) rest = subst (λ p. HaveLawfulSnaps s p rest) place (lawful_drop s (length front) g es snaps) in
     subst (λ log. HasRolled s log (roll_groups s k (roll_group s r part) rest)) (append_assoc front part rest ∙ ap (λ l. front ++ l) (take-append-drop g es))
     (roll_extends s (front ++ part) rest k (roll_group s r part) good later (omega (arith, length-drop g es, size, more)) one)
+
+-- rows that were written, by writers up to a position
+pub writers_within : (high : ℕ) (rows : List Row) → AreWritten rows → Each (λ row. row.writer ≤ high) rows → Each (λ row. IsWithin 1 high row.writer) rows
+writers_within high [] low below = tt
+writers_within high (row ∷ rows) low below = (record { at_least = low.0; at_most = below.0 }, writers_within high rows low.1 below.1)

@@ -8,6 +8,7 @@ use Rattle.hy_base.specs.declared.workload.Event.TheVariants.{Begin, Append, End
 use Rattle.hy_base.specs.Script.{Workload}
 use Rattle.hy_base.specs.Shape.{IsWithin, is_within}
 use Rattle.hy_base.specs.Spelling.{Text, event_words}
+use Rattle.hy_base.proofs.ShapeLemmas.{is_within-true}
 use Rattle.hy_script.specs.Fields.{and_then, one_number, two_numbers}
 use Rattle.hy_script.specs.Forms.{judged_words}
 use Rattle.hy_script.specs.Grammar.{event_of_client, event_of, makes_if, publish, stop}
@@ -19,7 +20,7 @@ use Rattle.hy_script.specs.declared.refused.Refused.{Refused}
 use Rattle.hy_script.specs.declared.why.Why.{Why}
 use Rattle.hy_script.specs.declared.why.Why.TheVariants.{Range}
 use Rattle.hy_script.proofs.EventLines.{client_line, event_line, event_same, server_line}
-use Rattle.hy_script.proofs.FieldsRead.{and_then_was, branch, one_was, two_was, within_was, words_are}
+use Rattle.hy_script.proofs.FieldsRead.{and_then_was, branch, one_was, two_was, words_are}
 
 abbrev pub IsEventLine : Workload → List Text → Event → Type 0
 IsEventLine script words event = (words ≡ event_words event) × IsEventSpellable script event
@@ -35,13 +36,13 @@ module _ (script : Workload) (word : Text) (fields : List Text) (event : Event) 
       let step = and_then_was (one_number fields) (λ client. judged_words (event_of_client script (made client) client)) event e in
       let tested = ranged_was (is_within 1 (length script.clients) step.0) (made step.0) event step.2 in
       let words = words_are word name fields _ named (one_was fields step.0 step.1).0 in
-      subst (λ w. IsEventLine script w event) (sym words) (subst (IsEventLine script (name ∷ decimal step.0 ∷ [])) tested.1 (good step.0 (within_was 1 (length script.clients) step.0 tested.0)))
+      subst (λ w. IsEventLine script w event) (sym words) (subst (IsEventLine script (name ∷ decimal step.0 ∷ [])) tested.1 (good step.0 (is_within-true 1 (length script.clients) step.0 tested.0)))
 
   pad_was : bytes_eq word (codes "p") ≡ true → server_line script fields ≡ Ok event → IsEventLine script (word ∷ fields) event
   pad_was named e =
       let step = and_then_was (one_number fields) (λ server. judged_words (makes_if ((is_within 1 script.servers server, Range) ∷ []) (Pad server))) event e in
       let tested = ranged_was (is_within 1 script.servers step.0) (Pad step.0) event step.2 in
-      subst (IsEventLine script (word ∷ fields)) tested.1 (words_are word (codes "p") fields _ named (one_was fields step.0 step.1).0, within_was 1 script.servers step.0 tested.0)
+      subst (IsEventLine script (word ∷ fields)) tested.1 (words_are word (codes "p") fields _ named (one_was fields step.0 step.1).0, is_within-true 1 script.servers step.0 tested.0)
 
   publish_was : bytes_eq word (codes "r") ≡ true → and_then (two_numbers fields) (λ p. judged_words (publish script p.0 p.1)) ≡ Ok event → IsEventLine script (word ∷ fields) event
   publish_was named e =
@@ -50,7 +51,7 @@ module _ (script : Workload) (word : Text) (fields : List Text) (event : Event) 
       let tested = ranged_was (is_within 1 script.servers p.0 && nat_le p.1 4294967295) (Publish p.0 p.1) event step.2 in
       let parts = and_parts (is_within 1 script.servers p.0) (nat_le p.1 4294967295) tested.0 in
       let small : p.1 < 2 ^ 32 = omega (arith, leb-true p.1 4294967295 parts.1) in
-      subst (IsEventLine script (word ∷ fields)) tested.1 (words_are word (codes "r") fields _ named (two_was fields p step.1).words, (within_was 1 script.servers p.0 parts.0, small))
+      subst (IsEventLine script (word ∷ fields)) tested.1 (words_are word (codes "r") fields _ named (two_was fields p step.1).words, (is_within-true 1 script.servers p.0 parts.0, small))
 
   stop_was : bytes_eq word (codes "t") ≡ true → and_then (two_numbers fields) (λ p. judged_words (stop p.0 p.1)) ≡ Ok event → IsEventLine script (word ∷ fields) event
   stop_was named e =
@@ -58,7 +59,7 @@ module _ (script : Workload) (word : Text) (fields : List Text) (event : Event) 
       let p = step.0 in
       let tested = ranged_was (is_within 1 4 p.0 && nat_le p.1 2) (Stop p.0 p.1) event step.2 in
       let parts = and_parts (is_within 1 4 p.0) (nat_le p.1 2) tested.0 in
-      subst (IsEventLine script (word ∷ fields)) tested.1 (words_are word (codes "t") fields _ named (two_was fields p step.1).words, (within_was 1 4 p.0 parts.0, leb-true p.1 2 parts.1))
+      subst (IsEventLine script (word ∷ fields)) tested.1 (words_are word (codes "t") fields _ named (two_was fields p step.1).words, (is_within-true 1 4 p.0 parts.0, leb-true p.1 2 parts.1))
 
   event_by : event_line script (word ∷ fields) ≡ Ok event → IsEventLine script (word ∷ fields) event
   event_by e =

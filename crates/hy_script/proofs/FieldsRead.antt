@@ -1,11 +1,9 @@
 -- From what fields were read as, to what they are.
-use Rattle.std.proofs.Common.{ltb-true, ◌≡◌, ℕ, ◌<◌, ◌^◌, Bool, true, false, ◌&&◌, List, [], ◌∷◌, refl, sym, ap, subst, ◌∙◌, if◌then◌else◌, nat_lt, nat_le}
+use Rattle.std.proofs.Common.{ltb-true, ◌≡◌, ℕ, ◌<◌, ◌^◌, Bool, true, false, ◌&&◌, List, [], ◌∷◌, refl, sym, ap, subst, ◌∙◌, if◌then◌else◌, nat_lt}
 use Rattle.std.specs.Prelude.{Some, None, Result, Ok, Err, ok_or, bytes_eq, decimal}
 use Rattle.std.specs.List.{list_any}
 use Rattle.std.specs.Str.Parse.{digits_value}
-use Rattle.std.proofs.lemmas.Bool.{and_parts, leb-true}
 use Rattle.std.proofs.lemmas.Slice.Eq.{bytes_eq-Decides}
-use Rattle.hy_base.specs.Shape.{IsWithin, is_within}
 use Rattle.hy_base.specs.Spelling.{Text}
 use Rattle.hy_script.specs.Fields.{and_then, number_field, one_number, two_numbers, three_numbers, number_and_text, no_fields}
 use Rattle.hy_script.specs.Forms.{is_blank}
@@ -28,11 +26,6 @@ else_was false x why b e = (refl, e)
 pub branch : {B P : Type 0} (t : Bool) (x y : Result B Why) (b : B) → (if t then x else y) ≡ Ok b → (t ≡ true → x ≡ Ok b → P) → (t ≡ false → y ≡ Ok b → P) → P
 branch true x y b e f g = f refl e
 branch false x y b e f g = g refl e
-
-pub within_was : (low high n : ℕ) → is_within low high n ≡ true → IsWithin low high n
-within_was low high n e =
-    let parts = and_parts (nat_le low n) (nat_le n high) e in
-    record { at_least = leb-true low n parts.0; at_most = leb-true n high parts.1 }
 
 by_spelling : (a b : Bool) (m n : ℕ) → ok_or (if a && b then Some m else None) Number ≡ Ok n → (a ≡ true) × (b ≡ true) × (m ≡ n)
 by_spelling true true m n e = (refl, refl, cc)

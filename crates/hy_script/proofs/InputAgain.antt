@@ -13,6 +13,7 @@ use Rattle.hy_base.specs.declared.workload.Event.TheVariants.{Begin, Append, End
 use Rattle.hy_base.specs.Script.{Workload}
 use Rattle.hy_base.specs.Shape.{IsWithin, is_within}
 use Rattle.hy_base.specs.Spelling.{Text, event_words, line}
+use Rattle.hy_base.proofs.ShapeLemmas.{IsWithin-test}
 use Rattle.hy_script.specs.Fields.{and_then, one_number}
 use Rattle.hy_script.specs.Forms.{judged_words}
 use Rattle.hy_script.specs.Grammar.{Place, AtStart, Listing, Scheduled, event_of_client, event_of, makes_if, publish, stop}
@@ -27,7 +28,7 @@ use Rattle.hy_script.specs.declared.refused.Refused.{Refused}
 use Rattle.hy_script.specs.declared.why.Why.{Why}
 use Rattle.hy_script.specs.declared.why.Why.TheVariants.{Range}
 use Rattle.hy_script.proofs.EventLines.{event_line, event_same}
-use Rattle.hy_script.proofs.LinesAgain.{one_again, schedule_again, two_again, within_is}
+use Rattle.hy_script.proofs.LinesAgain.{one_again, schedule_again, two_again}
 use Rattle.hy_script.proofs.LinesSpelled.{IsSpeech, lines_first, numbered_first, visible_decimal, words_spelled}
 use Rattle.hy_script.proofs.ProgramLines.{listing_leads}
 use Rattle.hy_script.proofs.ReadLemmas.{cells, scheduled, whole}
@@ -43,7 +44,7 @@ client_event_again : (script : Workload) (made : ℕ → Event) (client : ℕ) �
     → and_then (one_number (decimal client ∷ [])) (λ c. judged_words (event_of_client script (made c) c)) ≡ Ok (made client)
 client_event_again script made client few within =
     ap (λ read. and_then read (λ c. judged_words (event_of_client script (made c) c))) (one_again client (omega (arith, few, within.at_most)))
-    ∙ ranged_again (is_within 1 (length script.clients) client) (made client) (within_is 1 (length script.clients) client within)
+    ∙ ranged_again (is_within 1 (length script.clients) client) (made client) (IsWithin-test 1 (length script.clients) client within)
 
 module _ (script : Workload) (s : IsScriptSpellable script) where
   few : length script.clients ≤ 128
@@ -59,15 +60,15 @@ module _ (script : Workload) (s : IsScriptSpellable script) where
   event_flat (Refuse client) e = client_event_again script (λ c. Refuse c) client few e
   event_flat (Pad server) e =
       ap (λ read. and_then read (λ n. judged_words (makes_if ((is_within 1 script.servers n, Range) ∷ []) (Pad n)))) (one_again server (omega (arith, servers, e.at_most)))
-      ∙ ranged_again (is_within 1 script.servers server) (Pad server) (within_is 1 script.servers server e)
+      ∙ ranged_again (is_within 1 script.servers server) (Pad server) (IsWithin-test 1 script.servers server e)
   event_flat (Publish server upto) e =
       ap (λ read. and_then read (λ p. judged_words (publish script p.0 p.1))) (two_again server upto (omega (arith, servers, e.0.at_most)) (omega (arith, e.1)))
       ∙ ranged_again (is_within 1 script.servers server && nat_le upto 4294967295) (Publish server upto)
-      (and_from (is_within 1 script.servers server) (nat_le upto 4294967295) (within_is 1 script.servers server e.0) (le-leb upto 4294967295 (omega (arith, e.1))))
+      (and_from (is_within 1 script.servers server) (nat_le upto 4294967295) (IsWithin-test 1 script.servers server e.0) (le-leb upto 4294967295 (omega (arith, e.1))))
   event_flat (Stop call pattern) e =
       ap (λ read. and_then read (λ p. judged_words (stop p.0 p.1))) (two_again call pattern (omega (arith, e.0.at_most)) (omega (arith, e.1)))
       ∙ ranged_again (is_within 1 4 call && nat_le pattern 2) (Stop call pattern)
-      (and_from (is_within 1 4 call) (nat_le pattern 2) (within_is 1 4 call e.0) (le-leb pattern 2 e.1))
+      (and_from (is_within 1 4 call) (nat_le pattern 2) (IsWithin-test 1 4 call e.0) (le-leb pattern 2 e.1))
 
   event_again : (event : Event) → IsEventSpellable script event → event_of script (event_words event) ≡ Ok event
   event_again (Begin client) e = sym (event_same script (event_words (Begin client))) ∙ event_flat (Begin client) e

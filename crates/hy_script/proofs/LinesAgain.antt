@@ -1,8 +1,7 @@
 -- The words of a spelled line are read as what they spell.
 use Rattle.std.proofs.Common.{arith, lt-ltb, ◌≡◌, ℕ, ◌<◌, ◌≤◌, ◌^◌, ◌%◌, ◌==◌, Bool, true, false, ◌&&◌, [], ◌∷◌, length, refl, ap, ◌∙◌, if◌then◌else◌, nat_lt, nat_le}
 use Rattle.std.specs.Prelude.{Result, Ok, Err, ok_or, codes, decimal}
-use Rattle.std.proofs.lemmas.Bool.{and_from, le-leb, ne_eqb}
-use Rattle.std.proofs.lemmas.Bool.Decides.{nat_tests}
+use Rattle.std.proofs.lemmas.Bool.{and_from, le-leb, ne_eqb, eq-eqb}
 use Rattle.std.proofs.lemmas.Fmt.{decimal_nonempty}
 use Rattle.hy_base.specs.declared.layout.Shape.{Shape}
 use Rattle.hy_base.specs.declared.workload.Command.{Command}
@@ -11,6 +10,7 @@ use Rattle.hy_base.specs.Script.{Workload, IsCommand, client_count}
 use Rattle.hy_base.specs.Shape.{IsWithin, IsGoodShape, is_within}
 use Rattle.hy_base.specs.Spelling.{Text}
 use Rattle.hy_base.specs.Value.{is_value}
+use Rattle.hy_base.proofs.ShapeLemmas.{IsWithin-test}
 use Rattle.hy_script.specs.Fields.{and_then, number_field, one_number, two_numbers, three_numbers, number_and_text}
 use Rattle.hy_script.specs.Forms.{is_blank}
 use Rattle.hy_script.specs.Grammar.{is_shape, last_program_count}
@@ -49,23 +49,17 @@ value_some (b ∷ bytes) e = ne_eqb (length (b ∷ bytes)) 0 (λ none. omega (ar
 pub text_again : (n : ℕ) (value : Text) → n < 2 ^ 64 → is_value value ≡ true → number_and_text (decimal n ∷ value ∷ []) ≡ Ok (n, value)
 text_again n value small e = rw (some n small, value_some value e, field_again n small) refl
 
-pub within_is : (low high n : ℕ) → IsWithin low high n → is_within low high n ≡ true
-within_is low high n w = and_from (nat_le low n) (nat_le n high) (le-leb low n w.at_least) (le-leb n high w.at_most)
-
 if_so : {A : Type 0} (t : Bool) (x y : A) → t ≡ true → (if t then x else y) ≡ x
 if_so true x y e = refl
 if_so false x y e = cc
 
 -- lines
 
-same : (a b : ℕ) → a ≡ b → (a == b) ≡ true
-same a b e = grind (arith, nat_tests)
-
 shape_is : (shape : Shape) → IsGoodShape shape → is_shape shape.group shape.window shape.cap ≡ true
 shape_is shape good =
-    (and_from (is_within 1 8 shape.group) _ (within_is 1 8 shape.group good.group)
-    (and_from (is_within 1 64 shape.window) _ (within_is 1 64 shape.window good.window)
-    (and_from (is_within shape.group 2147483648 shape.cap) (shape.cap % shape.group == 0) (within_is shape.group 2147483648 shape.cap good.cap) (same (shape.cap % shape.group) 0 good.whole_groups))))
+    (and_from (is_within 1 8 shape.group) _ (IsWithin-test 1 8 shape.group good.group)
+    (and_from (is_within 1 64 shape.window) _ (IsWithin-test 1 64 shape.window good.window)
+    (and_from (is_within shape.group 2147483648 shape.cap) (shape.cap % shape.group == 0) (IsWithin-test shape.group 2147483648 shape.cap good.cap) (eq-eqb (shape.cap % shape.group) 0 good.whole_groups))))
 
 pub shape_again : (shape : Shape) → IsGoodShape shape → shape_line (codes "shape" ∷ decimal shape.group ∷ decimal shape.window ∷ decimal shape.cap ∷ []) ≡ Ok shape
 shape_again shape good =
@@ -76,7 +70,7 @@ shape_again shape good =
 within_again : (low high n : ℕ) → high < 2 ^ 64 → IsWithin low high n → number_within low high (decimal n ∷ []) ≡ Ok n
 within_again low high n small w =
     ap (λ read. and_then read (λ m. if is_within low high m then Ok m else Err Range)) (one_again n (omega (arith, small, w.at_most)))
-    ∙ if_so (is_within low high n) (Ok n) (Err Range) (within_is low high n w)
+    ∙ if_so (is_within low high n) (Ok n) (Err Range) (IsWithin-test low high n w)
 
 pub servers_again : (n : ℕ) → IsServerNumber n → servers_line (codes "servers" ∷ decimal n ∷ []) ≡ Ok n
 servers_again n w = within_again 1 8 n (omega arith) w
@@ -111,5 +105,5 @@ command_again count (Scan lo hi n) fits lawful room =
     let read = three_again lo hi n (omega (arith, fits, lawful.0)) fits (omega (arith, lawful.1.at_most)) in
     ap (λ r. and_then (and_then r (λ p. if is_within 1 1000 p.2 then (if nat_le p.0 p.1 then Ok (Scan p.0 p.1 p.2) else Err Order) else Err Range)) (one_more count)) read
     ∙ ap (λ r. and_then r (one_more count))
-    (if_so (is_within 1 1000 n) (if nat_le lo hi then Ok (Scan lo hi n) else Err Order) (Err Range) (within_is 1 1000 n lawful.1) ∙ if_so (nat_le lo hi) (Ok (Scan lo hi n)) (Err Order) (le-leb lo hi lawful.0))
+    (if_so (is_within 1 1000 n) (if nat_le lo hi then Ok (Scan lo hi n) else Err Order) (Err Range) (IsWithin-test 1 1000 n lawful.1) ∙ if_so (nat_le lo hi) (Ok (Scan lo hi n)) (Err Order) (le-leb lo hi lawful.0))
     ∙ one_more_again count (Scan lo hi n) room

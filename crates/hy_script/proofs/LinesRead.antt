@@ -10,6 +10,7 @@ use Rattle.hy_base.specs.Shape.{IsWithin, IsGoodShape, is_within}
 use Rattle.hy_base.specs.Spelling.{Text}
 use Rattle.hy_base.specs.Value.{is_value}
 use Rattle.hy_base.specs.Limits.{IsServerNumber}
+use Rattle.hy_base.proofs.ShapeLemmas.{is_within-true}
 use Rattle.hy_script.specs.Fields.{and_then, one_number, two_numbers, three_numbers, number_and_text, no_fields}
 use Rattle.hy_script.specs.Grammar.{is_shape, last_program_count}
 use Rattle.hy_script.specs.Laws.{FitsFields}
@@ -20,7 +21,7 @@ use Rattle.hy_script.specs.declared.script.ListingLine.TheVariants.{Client, Begi
 use Rattle.hy_script.specs.declared.script.ProgramLine.{ProgramLine}
 use Rattle.hy_script.specs.declared.script.ProgramLine.TheVariants.{Next, End}
 use Rattle.hy_script.specs.declared.why.Why.TheVariants.{Word, Value, Range, Order, Count}
-use Rattle.hy_script.proofs.FieldsRead.{and_then_was, branch, if_was, none_was, one_was, text_was, three_was, two_was, within_was, words_are}
+use Rattle.hy_script.proofs.FieldsRead.{and_then_was, branch, if_was, none_was, one_was, text_was, three_was, two_was, words_are}
 
 -- the shape and the servers
 
@@ -33,7 +34,7 @@ shape_tests p e =
     let c = and_parts (is_within 1 8 p.0) _ e in
     let d = and_parts (is_within 1 64 p.1) _ c.1 in
     let f = and_parts (is_within p.0 2147483648 p.2) (p.2 % p.0 == 0) d.1 in
-    record { group = within_was 1 8 p.0 c.0; window = within_was 1 64 p.1 d.0; cap = within_was p.0 2147483648 p.2 f.0; whole_groups = eqb-true (p.2 % p.0) 0 f.1 }
+    record { group = is_within-true 1 8 p.0 c.0; window = is_within-true 1 64 p.1 d.0; cap = is_within-true p.0 2147483648 p.2 f.0; whole_groups = eqb-true (p.2 % p.0) 0 f.1 }
 
 pub shape_was : (words : List Text) (shape : Shape) → shape_line words ≡ Ok shape → IsShapeLine words shape
 shape_was [] shape e = cc
@@ -52,7 +53,7 @@ number_within_was low high fields n e =
     let read = and_then_was (one_number fields) (λ m. if is_within low high m then Ok m else Err Range) n e in
     let tested = if_was (is_within low high read.0) (Ok read.0) Range n read.2 in
     let same : read.0 ≡ n = cc (tested.1) in
-    (subst (λ k. fields ≡ decimal k ∷ []) same (one_was fields read.0 read.1).0, subst (IsWithin low high) same (within_was low high read.0 tested.0))
+    (subst (λ k. fields ≡ decimal k ∷ []) same (one_was fields read.0 read.1).0, subst (IsWithin low high) same (is_within-true low high read.0 tested.0))
 
 pub servers_was : (words : List Text) (n : ℕ) → servers_line words ≡ Ok n → (words ≡ codes "servers" ∷ decimal n ∷ []) × IsServerNumber n
 servers_was [] n e = cc
@@ -156,7 +157,7 @@ module _ (count : ℕ) (word : Text) (fields : List Text) (read : ProgramLine) w
       let ordered = if_was (nat_le p.0 p.1) (Ok (Scan p.0 p.1 p.2)) Order step.0 ranged.1 in
       let is : step.0 ≡ Scan p.0 p.1 p.2 = cc (ordered.1) in
       next_was count (word ∷ fields) (Scan p.0 p.1 p.2) read (ap (one_more count) (sym is) ∙ step.2) (words_are word (codes "scan") fields _ named was.words) was.second
-      (leb-true p.0 p.1 ordered.0, within_was 1 1000 p.2 ranged.0)
+      (leb-true p.0 p.1 ordered.0, is_within-true 1 1000 p.2 ranged.0)
 
   end_was : bytes_eq word (codes "end") ≡ true → and_then (no_fields fields) (λ u. Ok End) ≡ Ok read → IsProgramLine count (word ∷ fields) read
   end_was named e =

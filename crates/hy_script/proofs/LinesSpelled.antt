@@ -2,7 +2,7 @@
 use Rattle.std.proofs.Common.{arith, ◌≡◌, ℕ, ◌+◌, ◌<◌, ◌^◌, ◌%◌, ◌==◌, Bool, true, false, not, List, [], ◌∷◌, ◌++◌, length, refl, ap, ◌∙◌, append_assoc, nat_le}
 use Rattle.std.specs.Prelude.{decimal}
 use Rattle.std.specs.List.{AllByRecursion, join_with_byte, list_all}
-use Rattle.std.proofs.lemmas.Bool.{and_from, and_parts}
+use Rattle.std.proofs.lemmas.Bool.{and_from, and_parts, not-true}
 use Rattle.std.proofs.lemmas.Bool.Decides.{nat_tests}
 use Rattle.std.proofs.lemmas.Fmt.{decimal_by_steps}
 use Rattle.hy_base.specs.Spelling.{Text, line}
@@ -44,21 +44,17 @@ is_free c bytes = list_all (λ b. not (b == c)) bytes
 free_of : (c : ℕ) → c < 33 → (word : Text) → is_visible word ≡ true → is_free c word ≡ true
 free_of c small = list_all_more (λ b. nat_le 33 b) (λ b. not (b == c)) (λ b visible. grind (arith, nat_tests))
 
-differs : (t : Bool) → not t ≡ true → t ≡ false
-differs true e = cc
-differs false e = refl
-
 piece_alone : (c : ℕ) (word : Text) → is_free c word ≡ true → pieces_of c word ≡ word ∷ []
 piece_alone c [] free = refl
 piece_alone c (b ∷ word) free =
     let parts = and_parts (not (b == c)) (is_free c word) free in
-    next_piece c b word (differs (b == c) parts.0) ∙ ap (with_first b) (piece_alone c word parts.1)
+    next_piece c b word (not-true (b == c) parts.0) ∙ ap (with_first b) (piece_alone c word parts.1)
 
 piece_before : (c : ℕ) → (c == c) ≡ true → (word rest : Text) → is_free c word ≡ true → pieces_of c (word ++ c ∷ rest) ≡ word ∷ pieces_of c rest
 piece_before c same [] rest free = cut_at c c rest true same
 piece_before c same (b ∷ word) rest free =
     let parts = and_parts (not (b == c)) (is_free c word) free in
-    next_piece c b (word ++ c ∷ rest) (differs (b == c) parts.0) ∙ ap (with_first b) (piece_before c same word rest parts.1)
+    next_piece c b (word ++ c ∷ rest) (not-true (b == c) parts.0) ∙ ap (with_first b) (piece_before c same word rest parts.1)
 
 -- the first word begins with no byte of a comment
 abbrev pub says : List Text → Bool
@@ -89,8 +85,8 @@ free_joined (word ∷ next ∷ words) visible =
 not_skipped : (words : List Text) → says words ≡ true → is_skipped (join_with_byte 32 words) ≡ false
 not_skipped [] e = cc
 not_skipped ([] ∷ words) e = cc
-not_skipped ((b ∷ word) ∷ []) e = differs (b == 35) e
-not_skipped ((b ∷ word) ∷ next ∷ words) e = differs (b == 35) e
+not_skipped ((b ∷ word) ∷ []) e = not-true (b == 35) e
+not_skipped ((b ∷ word) ∷ next ∷ words) e = not-true (b == 35) e
 
 text_first : (words : List Text) (lines : List (List Text)) (rest : Text) → text_of_lines (words ∷ lines) ++ rest ≡ join_with_byte 32 words ++ 10 ∷ (text_of_lines lines ++ rest)
 text_first words lines rest =

@@ -47,9 +47,6 @@ joined : {A B C : Type 0} (read : Result A Why) (f : A → Result B Why) (g : B 
 joined (Ok a) f g = refl
 joined (Err why) f g = refl
 
-named : (word name : Text) → bytes_eq word name ≡ true → word ≡ name
-named word name e = (bytes_eq-Decides word name).0 e
-
 module _ (sim : Bool) (number : ℕ) (script : Workload) (commands : List Command) (fields : List Text) where
   abbrev Leads : Text → Type 0
   Leads word = leading (after_program_line script commands) (program_line (length commands) (word ∷ fields)) ≡ read_line (forms_at sim (Programming script commands) number) (word ∷ fields)
@@ -81,7 +78,7 @@ module _ (sim : Bool) (number : ℕ) (script : Workload) (commands : List Comman
 
   module _ (word : Text) where
     at_name : (name : Text) → bytes_eq word name ≡ true → Leads name → Leads word
-    at_name name e leads = subst Leads (sym (named word name e)) leads
+    at_name name e leads = subst Leads (sym ((bytes_eq-Decides word name).0 e)) leads
 
     by_end : (t : Bool) → bytes_eq word (codes "get") ≡ false → bytes_eq word (codes "put") ≡ false → bytes_eq word (codes "del") ≡ false → bytes_eq word (codes "add") ≡ false → bytes_eq word (codes "scan") ≡ false
         → bytes_eq word (codes "end") ≡ t → Leads word
@@ -193,15 +190,15 @@ module _ (number : ℕ) (script : Workload) (fields : List Text) where
     none_leads false false a b c = rw a refl
 
     list_schedule : (sim some t : Bool) → bytes_eq word (codes "client") ≡ false → bytes_eq word (codes "begin") ≡ false → bytes_eq word (codes "schedule") ≡ t → Lists sim some word
-    list_schedule sim some true a b c = subst (Lists sim some) (sym (named word (codes "schedule") c)) (schedule_leads sim some)
+    list_schedule sim some true a b c = subst (Lists sim some) (sym ((bytes_eq-Decides word (codes "schedule")).0 c)) (schedule_leads sim some)
     list_schedule sim some false a b c = none_leads sim some a b c
 
     list_begin : (sim some t : Bool) → bytes_eq word (codes "client") ≡ false → bytes_eq word (codes "begin") ≡ t → Lists sim some word
-    list_begin sim some true a b = subst (Lists sim some) (sym (named word (codes "begin") b)) (begin_leads sim some)
+    list_begin sim some true a b = subst (Lists sim some) (sym ((bytes_eq-Decides word (codes "begin")).0 b)) (begin_leads sim some)
     list_begin sim some false a b = list_schedule sim some (bytes_eq word (codes "schedule")) a b refl
 
     list_client : (sim some t : Bool) → bytes_eq word (codes "client") ≡ t → Lists sim some word
-    list_client sim some true a = subst (Lists sim some) (sym (named word (codes "client") a)) (client_leads sim some)
+    list_client sim some true a = subst (Lists sim some) (sym ((bytes_eq-Decides word (codes "client")).0 a)) (client_leads sim some)
     list_client sim some false a = list_begin sim some (bytes_eq word (codes "begin")) a refl
 
 pub listing_leads : (sim : Bool) (number : ℕ) (script : Workload) (words : List Text)

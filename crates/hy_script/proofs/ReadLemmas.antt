@@ -14,6 +14,7 @@ use Rattle.hy_script.specs.declared.refused.Reading.{Reading}
 use Rattle.hy_script.specs.declared.refused.Refused.{Refused}
 use Rattle.hy_script.specs.declared.refused.ReadError.{ReadError}
 use Rattle.hy_script.specs.Outcome.{Reads}
+use Rattle.hy_script.specs.declared.why.Why.{Why}
 use Rattle.hy_script.specs.declared.why.Why.TheVariants.{Long}
 use Rattle.hy_script.proofs.ScheduleLemmas.{numbered_line}
 
@@ -95,7 +96,11 @@ not_long : {A : Type 0} (t : Bool) (n : ℕ) (x y : A) → nat_lt 16777216 n ≡
 not_long true n x y e small = absurd (omega (arith, ltb-true 16777216 n e))
 not_long false n x y e small = rw e refl
 
-abbrev finish : Text → Result Place Refused → Result Reading Refused
+-- what a line and the lines after it make of a place
+abbrev pub then_all : Bool → ℕ → List (ℕ × Text) → Result Place Why → Result Place Refused
+then_all sim number ps read = elim read [ Ok next ↦ place_after_all sim next ps | Err why ↦ refused_at number why ]
+
+abbrev pub finish : Text → Result Place Refused → Result Reading Refused
 finish bytes read = elim read [ Ok place ↦ script_ended bytes place | Err fault ↦ Err fault ]
 
 pub whole : (sim : Bool) (bytes : Text) (read : Result Place Refused) → length bytes ≤ 16777216 → place_after_all sim AtStart (numbered_lines 1 bytes) ≡ read → read_script bytes sim ≡ finish bytes read

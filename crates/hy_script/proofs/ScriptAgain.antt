@@ -1,6 +1,6 @@
 -- What a script spells is read as that script.
 use Rattle.std.proofs.Common.{arith, ◌≡◌, ℕ, ◌+◌, ◌<◌, ◌≤◌, ◌==◌, Bool, true, cond, List, [], ◌∷◌, ◌++◌, length, refl, sym, ap, subst, ◌∙◌, append_assoc, append-nil, length-append}
-use Rattle.std.specs.Prelude.{map, flat_map, Result, Ok, Err, All, codes, decimal}
+use Rattle.std.specs.Prelude.{map, flat_map, Ok, All, codes, decimal}
 use Rattle.std.specs.List.{AllByRecursion, join_with_byte}
 use Rattle.std.proofs.lemmas.Bool.Decides.{nat_tests}
 use Rattle.std.proofs.lemmas.Grind.{flat_map-append}
@@ -20,16 +20,14 @@ use Rattle.hy_script.specs.Grammar.{Place, AtStart, Shaped, Listing, Programming
 use Rattle.hy_script.specs.Laws.{ClientFits, FitsFields, IsScriptSpellable, ProgramFits, ReadsItsSpelling}
 use Rattle.hy_script.specs.Lines.{lines_of, numbered_lines, words_of}
 use Rattle.hy_script.specs.Parts.{after_listing, after_program_line, leading}
-use Rattle.hy_script.specs.Reading.{place_after, place_after_all, refused_at}
+use Rattle.hy_script.specs.Reading.{place_after, place_after_all}
 use Rattle.hy_script.specs.ScriptFields.{listing_line, program_line, servers_line, shape_line}
 use Rattle.hy_script.specs.Spelling.{client_lines, command_words, program_lines, script_lines, script_text, text_of_lines}
-use Rattle.hy_script.specs.declared.refused.Refused.{Refused}
-use Rattle.hy_script.specs.declared.why.Why.{Why}
-use Rattle.hy_script.proofs.Drafts.{change_last_is, last_program_count_is}
+use Rattle.hy_script.proofs.Drafts.{change_last_is, last_program_count_is, script_with, counted_at}
 use Rattle.hy_script.proofs.LinesAgain.{begin_again, client_again, command_again, servers_again, shape_again}
 use Rattle.hy_script.proofs.LinesSpelled.{IsSpeech, lines_first, numbered_first, visible_decimal, visible_value, words_spelled}
 use Rattle.hy_script.proofs.ProgramLines.{listing_leads, program_leads}
-use Rattle.hy_script.proofs.ReadLemmas.{whole}
+use Rattle.hy_script.proofs.ReadLemmas.{whole, then_all}
 use Rattle.hy_script.proofs.ScriptLines.{served, servers_leads, shape_leads}
 
 -- lines of these words are cut as they stand, and lead from a place to another, whatever stands before and behind them
@@ -58,14 +56,11 @@ then_walks sim place next last xs ys first second = record {
       ∙ sym (append_assoc (map (join_with_byte 32) xs) (map (join_with_byte 32) ys) (lines_of rest)) ∙ ap (λ l. l ++ lines_of rest) (sym (map-append (join_with_byte 32) xs ys));
 }
 
-abbrev onto : Bool → ℕ → List (ℕ × Text) → Result Place Why → Result Place Refused
-onto sim number ps read = elim read [ Ok next ↦ place_after_all sim next ps | Err why ↦ refused_at number why ]
-
 pub one_line : (sim : Bool) (place last : Place) (words : List Text) → IsSpeech words → ((number : ℕ) (line : Text) → words_of line ≡ words → place_after sim place (number, line) ≡ Ok last) → Walks sim place (words ∷ []) last
 one_line sim place last words speech leads = record {
   walk = λ number rest.
       ap (place_after_all sim place) (numbered_first number words [] rest speech)
-      ∙ ap (onto sim number (numbered_lines (number + 1) rest)) (leads number (join_with_byte 32 words) (words_spelled words speech));
+      ∙ ap (then_all sim number (numbered_lines (number + 1) rest)) (leads number (join_with_byte 32 words) (words_spelled words speech));
   cut = λ rest. lines_first words [] rest speech;
 }
 
@@ -84,9 +79,6 @@ servers_walk : (sim : Bool) (shape : Shape) (n : ℕ) → IsServerNumber n → W
 servers_walk sim shape n within =
     one_line sim (Shaped shape) (served shape n) _ (record { visible = (refl, (visible_decimal n (omega (arith, within.at_most)), tt)); says_some = refl })
     (λ number line e. sym (servers_leads sim shape number (words_of line)) ∙ ap (leading (served shape)) (ap servers_line e ∙ servers_again n within))
-
-abbrev script_with : Workload → List Client → Workload
-script_with script cs = record { shape = script.shape; servers = script.servers; clients = cs }
 
 abbrev without_programs : ℕ → Client
 without_programs server = record { server = server; programs = [] }
@@ -182,16 +174,13 @@ whole_client sim script front c fits lawful few room =
     (client_walks sim script front c.server few lawful.server room)
     (programs_walk sim script front c.server [] c.programs fits lawful.programs (omega (arith, lawful.count)))
 
-abbrev one_of : ℕ → Client → ℕ
-one_of k c = cond (c.server == k) 1 0
-
-itself : (c : Client) → one_of c.server c ≡ 1
+itself : (c : Client) → counted_at c.server c ≡ 1
 itself c = let same : (c.server == c.server) ≡ true = grind (arith, nat_tests) in ap (λ t. cond t 1 0) same
 
 has_room : (front cs : List Client) (c : Client) → client_count (front ++ c ∷ cs) c.server ≤ 16 → client_count front c.server < 16
 has_room front cs c few =
-    let all : client_count (front ++ c ∷ cs) c.server ≡ client_count front c.server + client_count (c ∷ cs) c.server = sum_by-append (one_of c.server) front (c ∷ cs) in
-    let first : client_count (c ∷ cs) c.server ≡ one_of c.server c + client_count cs c.server = sum_by-cons (one_of c.server) c cs in
+    let all : client_count (front ++ c ∷ cs) c.server ≡ client_count front c.server + client_count (c ∷ cs) c.server = sum_by-append (counted_at c.server) front (c ∷ cs) in
+    let first : client_count (c ∷ cs) c.server ≡ counted_at c.server c + client_count cs c.server = sum_by-cons (counted_at c.server) c cs in
     omega (arith, few, all, first, itself c)
 
 clients_walk : (sim : Bool) (script : Workload) (front cs : List Client) → AllByRecursion ClientFits cs → All (IsClient script.servers) cs → script.servers ≤ 8 → ((k : ℕ) → client_count (front ++ cs) k ≤ 16)

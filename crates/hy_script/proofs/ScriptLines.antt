@@ -25,16 +25,13 @@ shape_after : (numbers : Result (ℕ × ℕ × ℕ) Why)
 shape_after (Ok p) = one_test (is_shape p.0 p.1 p.2) (record { group = p.0; window = p.1; cap = p.2 })
 shape_after (Err why) = refl
 
-named : (word name : Text) → bytes_eq word name ≡ true → word ≡ name
-named word name e = (bytes_eq-Decides word name).0 e
-
 shape_named : (sim : Bool) (number : ℕ) (fields : List Text) → leading Shaped (shape_line (codes "shape" ∷ fields)) ≡ read_line (forms_at sim AtStart number) (codes "shape" ∷ fields)
 shape_named sim number fields = sym (read_three "shape" _ fields ∙ shape_after (three_numbers fields))
 
 shape_by : (sim : Bool) (number : ℕ) (word : Text) (fields : List Text) (t : Bool) → bytes_eq word (codes "shape") ≡ t
     → leading Shaped (shape_line (word ∷ fields)) ≡ read_line (forms_at sim AtStart number) (word ∷ fields)
 shape_by sim number word fields true e =
-    subst (λ w. leading Shaped (shape_line (w ∷ fields)) ≡ read_line (forms_at sim AtStart number) (w ∷ fields)) (sym (named word (codes "shape") e)) (shape_named sim number fields)
+    subst (λ w. leading Shaped (shape_line (w ∷ fields)) ≡ read_line (forms_at sim AtStart number) (w ∷ fields)) (sym ((bytes_eq-Decides word (codes "shape")).0 e)) (shape_named sim number fields)
 shape_by sim number word fields false e = rw e refl
 
 pub shape_leads : (sim : Bool) (number : ℕ) (words : List Text) → leading Shaped (shape_line words) ≡ read_line (forms_at sim AtStart number) words
@@ -56,7 +53,7 @@ servers_after shape (Err why) = refl
 servers_by : (sim : Bool) (shape : Shape) (number : ℕ) (word : Text) (fields : List Text) (t : Bool) → bytes_eq word (codes "servers") ≡ t
     → leading (served shape) (servers_line (word ∷ fields)) ≡ read_line (forms_at sim (Shaped shape) number) (word ∷ fields)
 servers_by sim shape number word fields true e =
-    subst (λ w. leading (served shape) (servers_line (w ∷ fields)) ≡ read_line (forms_at sim (Shaped shape) number) (w ∷ fields)) (sym (named word (codes "servers") e))
+    subst (λ w. leading (served shape) (servers_line (w ∷ fields)) ≡ read_line (forms_at sim (Shaped shape) number) (w ∷ fields)) (sym ((bytes_eq-Decides word (codes "servers")).0 e))
     (sym (read_one "servers" _ fields ∙ servers_after shape (one_number fields)))
 servers_by sim shape number word fields false e = rw e refl
 

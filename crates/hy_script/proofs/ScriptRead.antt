@@ -2,18 +2,20 @@
 use Rattle.std.proofs.Common.{arith, ◌≡◌, ℕ, ◌<◌, Bool, true, false, List, [], ◌∷◌, ◌++◌, length, refl, sym, ap, subst, ◌∙◌, append_assoc, append-nil, if◌then◌else◌, nat_lt}
 use Rattle.std.specs.Prelude.{map, flat_map, Some, None, Result, Ok, Err, IfOk, codes, decimal, ⊤}
 use Rattle.std.specs.List.{AllByRecursion}
+use Rattle.std.proofs.lemmas.List.{map_push}
 use Rattle.hy_base.specs.declared.layout.Shape.{Shape}
 use Rattle.hy_base.specs.declared.workload.Command.{Command}
 use Rattle.hy_base.specs.declared.workload.Client.{Client}
 use Rattle.hy_base.specs.Script.{Workload, IsProgram, IsScript, client_count}
 use Rattle.hy_base.specs.Shape.{IsGoodShape, IsWithin}
 use Rattle.hy_base.specs.Spelling.{Text}
+use Rattle.hy_base.proofs.ListLemmas.{all_push}
 use Rattle.hy_script.specs.Grammar.{Place, AtStart, Shaped, Listing, Programming, Scheduled, change_last, gains_program, last_program_count, with_client, with_program}
 use Rattle.hy_script.specs.Laws.{ClientFits, FitsFields, IsSaidBy, IsScriptSpellable, ProgramFits, SpellsWhatItReads, words_by_line}
 use Rattle.hy_script.specs.Lines.{numbered_lines, words_of}
 use Rattle.hy_script.specs.Outcome.{Reads}
 use Rattle.hy_script.specs.Parts.{after_listing, after_program_line, leading}
-use Rattle.hy_script.specs.Reading.{script_ended, place_after, place_after_all, read_script, refused_at, start_after}
+use Rattle.hy_script.specs.Reading.{script_ended, place_after, place_after_all, read_script, start_after}
 use Rattle.hy_script.specs.ScriptFields.{listing_line, program_line, servers_line, shape_line}
 use Rattle.hy_script.specs.Spelling.{client_lines, command_words, program_lines, script_lines}
 use Rattle.hy_script.specs.declared.refused.ReadError.{ReadError}
@@ -24,11 +26,11 @@ use Rattle.hy_script.specs.declared.script.ListingLine.TheVariants.{Client as Cl
 use Rattle.hy_script.specs.declared.script.ProgramLine.{ProgramLine}
 use Rattle.hy_script.specs.declared.script.ProgramLine.TheVariants.{Next, End}
 use Rattle.hy_script.specs.declared.why.Why.{Why}
-use Rattle.hy_script.proofs.Drafts.{change_last_is, client_kept, last_program_count_is, program_kept}
+use Rattle.hy_script.proofs.Drafts.{change_last_is, client_kept, last_program_count_is, program_kept, script_with}
 use Rattle.hy_script.proofs.LinesRead.{IsListingLine, IsProgramLine, listing_was, program_was, servers_was, shape_was}
 use Rattle.hy_script.proofs.PlaceLemmas.{next_kept}
 use Rattle.hy_script.proofs.ProgramLines.{listing_leads, program_leads}
-use Rattle.hy_script.proofs.ReadLemmas.{scheduled}
+use Rattle.hy_script.proofs.ReadLemmas.{scheduled, finish, then_all}
 use Rattle.hy_script.proofs.ScriptLines.{served, servers_leads, shape_leads}
 
 -- lists that grow
@@ -36,14 +38,6 @@ use Rattle.hy_script.proofs.ScriptLines.{served, servers_leads, shape_leads}
 pub flat_map_push : {A B : Type 0} (f : A → List B) (xs : List A) (x : A) → flat_map f (xs ++ x ∷ []) ≡ flat_map f xs ++ f x
 flat_map_push f [] x = append-nil (f x)
 flat_map_push f (y ∷ ys) x = ap (λ l. f y ++ l) (flat_map_push f ys x) ∙ sym (append_assoc (f y) (flat_map f ys) (f x))
-
-map_push : {A B : Type 0} (f : A → B) (xs : List A) (x : A) → map f (xs ++ x ∷ []) ≡ map f xs ++ f x ∷ []
-map_push f [] x = refl
-map_push f (y ∷ ys) x = ap (λ l. f y ∷ l) (map_push f ys x)
-
-pub all_push : {A : Type 0} (P : A → Type 0) (xs : List A) (x : A) → AllByRecursion P xs → P x → AllByRecursion P (xs ++ x ∷ [])
-all_push P [] x all one = (one, tt)
-all_push P (y ∷ ys) x all one = (all.0, all_push P ys x all.1 one)
 
 -- what was said so far, and what is known of it
 
@@ -153,9 +147,6 @@ last_of : (cs : List Client) → 0 < length cs → (front : List Client) × (c :
 last_of [] some = absurd (omega (arith, some))
 last_of (c ∷ []) some = ([], c, refl)
 last_of (c ∷ d ∷ cs) some = let more = last_of (d ∷ cs) (omega arith) in (c ∷ more.0, more.1, ap (λ l. c ∷ l) more.2)
-
-abbrev script_with : Workload → List Client → Workload
-script_with script cs = record { shape = script.shape; servers = script.servers; clients = cs }
 
 program_lawful : (script : Workload) (commands : List Command) → IsScript script → IsOpenProgram script commands → IsScript (with_program commands script)
 program_lawful script commands lawful s =
@@ -283,9 +274,6 @@ onward sim before p ps (Scheduled script start) last rest f e =
     let same : Scheduled script start ≡ last = cc (scheduled sim script start ps, e) in
     scheduled_at before p ps script start last f same
 
-abbrev then_all : Bool → ℕ → List (ℕ × Text) → Result Place Why → Result Place Refused
-then_all sim number ps read = elim read [ Ok next ↦ place_after_all sim next ps | Err why ↦ refused_at number why ]
-
 then_was : (sim : Bool) (number : ℕ) (ps : List (ℕ × Text)) (read : Result Place Why) (last : Place) → then_all sim number ps read ≡ Ok last → (next : Place) × (read ≡ Ok next) × (place_after_all sim next ps ≡ Ok last)
 then_was sim number ps (Ok next) last e = (next, refl, e)
 then_was sim number ps (Err why) last e = cc
@@ -302,10 +290,7 @@ not_long : {B E : Type 0} (t : Bool) (x : Result B E) (y : E) (b : B) → (if t 
 not_long true x y b e = cc
 not_long false x y b e = e
 
-abbrev finished : Text → Result Place Refused → Result Reading Refused
-finished bytes read = elim read [ Ok place ↦ script_ended bytes place | Err fault ↦ Err fault ]
-
-finished_was : (bytes : Text) (read : Result Place Refused) (reading : Reading) → finished bytes read ≡ Ok reading → (place : Place) × (read ≡ Ok place) × (script_ended bytes place ≡ Ok reading)
+finished_was : (bytes : Text) (read : Result Place Refused) (reading : Reading) → finish bytes read ≡ Ok reading → (place : Place) × (read ≡ Ok place) × (script_ended bytes place ≡ Ok reading)
 finished_was bytes (Ok place) reading e = (place, refl, e)
 finished_was bytes (Err fault) reading e = cc
 
@@ -325,7 +310,7 @@ ended_was bytes lines (Scheduled script start) reading c e =
 
 pub spells_scripts : SpellsWhatItReads
 spells_scripts bytes sim reading e =
-    let read = not_long (nat_lt 16777216 (length bytes)) (finished bytes (place_after_all sim AtStart (numbered_lines 1 bytes))) _ reading e in
+    let read = not_long (nat_lt 16777216 (length bytes)) (finish bytes (place_after_all sim AtStart (numbered_lines 1 bytes))) _ reading e in
     let was = finished_was bytes (place_after_all sim AtStart (numbered_lines 1 bytes)) reading read in
     ended_was bytes (numbered_lines 1 bytes) was.0 reading (all_was sim (numbered_lines 1 bytes) was.0 AtStart tt tt was.1) was.2
 

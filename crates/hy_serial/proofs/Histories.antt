@@ -1,6 +1,6 @@
 -- The map that the recorded writes of the committed entries leave, position by position.
-use Rattle.std.proofs.Common.{◌≡◌, ◌∙◌, ℕ, zero, suc, ◌+◌, ◌*◌, ◌/◌, ◌%◌, ◌<◌, ◌≤◌, Bool, false, List, [], ◌∷◌, ◌++◌, length, take, drop, map, refl, sym, ap, subst, arith, append_assoc, length-take}
-use Rattle.std.proofs.lemmas.List.{append-nil, take-append-drop}
+use Rattle.std.proofs.Common.{◌≡◌, ◌∙◌, ℕ, zero, suc, ◌+◌, ◌*◌, ◌/◌, ◌%◌, ◌<◌, ◌≤◌, Bool, false, List, [], ◌∷◌, ◌++◌, length, take, drop, map, sym, ap, subst, arith, append_assoc, length-take}
+use Rattle.std.proofs.lemmas.List.{append-nil, take-append-drop, take-take}
 use Rattle.std.proofs.lemmas.Nat.{le-div}
 use Rattle.std.proofs.Math.Nat.{div-add-mod, mul_comm}
 use Rattle.std.proofs.Math.Seq.{take-append_seam}
@@ -104,12 +104,6 @@ serial_at H pos zero (x ∷ es) (w ∷ vs) e v h p q =
 serial_at H pos (suc n) (x ∷ es) (w ∷ vs) e v h p q =
     let at : pos + 1 + n ≡ pos + suc n = omega arith in subst (λ k. IsSerial H k e v) at (serial_at H (pos + 1) n es vs e v h.1 p q)
 
-take_less : {X : Type 0} (k n : ℕ) (xs : List X) → k ≤ n → take k (take n xs) ≡ take k xs
-take_less zero n xs le = refl
-take_less (suc k) zero xs le = absurd (omega (arith, le))
-take_less (suc k) (suc n) [] le = refl
-take_less (suc k) (suc n) (x ∷ xs) le = ap (λ ys. x ∷ ys) (take_less k n xs (omega (arith, le)))
-
 -- what was committed past the first entries, up to some more of them
 record Middle (log : List EntryKind) (vs : List (Option Verdict)) (k n : ℕ) : Type 0 where
   rows : List Row
@@ -118,7 +112,7 @@ record Middle (log : List EntryKind) (vs : List (Option Verdict)) (k n : ℕ) : 
 
 middle : (log : List EntryKind) (vs : List (Option Verdict)) (k n : ℕ) → k ≤ n → n ≤ length vs → length vs ≤ length log → Middle log vs k n
 middle log vs k n le within fits =
-    let front : take k (take n vs) ≡ take k vs = take_less k n vs le in
+    let front : take k (take n vs) ≡ take k vs = take-take k n vs le in
     let split : take n vs ≡ take k vs ++ drop k (take n vs) = sym (take-append-drop k (take n vs)) ∙ ap (λ us. us ++ drop k (take n vs)) front in
     let count : length (take k vs) ≡ k = omega (arith, length-take k vs, le, within) in
     let back : List EntryKind = drop (length (take k vs)) log in

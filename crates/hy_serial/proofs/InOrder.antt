@@ -1,11 +1,9 @@
 -- Sessions are in order.
-use Rattle.std.proofs.Common.{◌≡◌, ◌∙◌, ℕ, zero, suc, ◌+◌, ◌-◌, ◌<◌, ◌≤◌, Bool, true, false, List, [], ◌∷◌, ◌++◌, length, take, replicate, refl, sym, ap, subst, inl, inr, ⊎_elim, arith, ◌*◌, length-append}
-use Rattle.std.proofs.Math.Nat.{mul-le-mul_left, mul_comm}
-use Rattle.std.proofs.lemmas.Nat.{le-div}
+use Rattle.std.proofs.Common.{◌≡◌, ◌∙◌, ℕ, zero, suc, ◌+◌, ◌<◌, ◌≤◌, Bool, true, false, List, [], ◌∷◌, ◌++◌, length, take, replicate, refl, sym, ap, subst, inl, inr, ⊎_elim, arith, length-append}
 use Rattle.std.proofs.lemmas.List.Sums.{sum_by-cons}
 use mathlib.Core.Bool.{true≢false}
-use Rattle.std.proofs.lemmas.Bool.{and_parts, eqb-true, eqb-false, leb-true, ltb-true}
-use Rattle.std.specs.Prelude.{◌⊎◌, Option, Some, None, ◌==◌, ◌%◌, ◌/◌, not, map, count_by, nat_le, nat_lt, option_map, option_and_then, option_to_list, slice_get, unwrap_or, if◌then◌else◌}
+use Rattle.std.proofs.lemmas.Bool.{and_parts, eqb-true, eqb-false, leb-true, ltb-true, not-true}
+use Rattle.std.specs.Prelude.{◌⊎◌, Option, Some, None, ◌==◌, not, map, count_by, nat_le, nat_lt, option_map, option_and_then, option_to_list, slice_get, unwrap_or, if◌then◌else◌}
 use Rattle.std.specs.Option.{option_map_or}
 use Rattle.std.specs.List.{AllByRecursion}
 use Rattle.hy_base.specs.declared.record.EntryKind.{EntryKind}
@@ -19,36 +17,18 @@ use Rattle.hy_base.specs.declared.workload.Session.{Session}
 use Rattle.hy_base.specs.Lists.{nth, change_nth}
 use Rattle.hy_base.specs.Shape.{whole_groups}
 use Rattle.hy_base.specs.Script.{Workload}
+use Rattle.hy_base.proofs.NthLemmas.{change_here, change_elsewhere, nth_in_map, all_nth}
+use Rattle.hy_base.proofs.GroupLemmas.{whole_below}
+use Rattle.hy_base.proofs.NumberLemmas.{one_if}
 use Rattle.hy_rules.specs.Exec.{Effects, intention}
 use Rattle.hy_rules.specs.Moves.{Setting, State, is_begun, may_begin, client_passes, enabled, surviving, missing, at_next_program, begun_at, appended, abandoned, restarted, board_of, home_server, is_declared, ends_whole_group, fresh_session}
-use Rattle.hy_rules.specs.Runs.{setting_of, opening_of, may_happen, added, pending, begun_snap, step, run}
-use Rattle.hy_rules.proofs.Backward.{next_state, run_keeps}
+use Rattle.hy_rules.specs.Runs.{setting_of, opening_of, may_happen, added, pending, begun_snap, run}
+use Rattle.hy_rules.proofs.Backward.{next_state, run_keeps, run_on}
 use Rattle.hy_rules.specs.Sessions.{IsSessionOrdered, begins, snapshot_of}
 use Rattle.hy_serial.specs.Laws.{SessionsAreOrdered}
-use Rattle.hy_serial.proofs.Snapshots.{HasSnaps, IsSnap, all_at_nth, snaps_after, snaps_opening}
+use Rattle.hy_serial.proofs.Snapshots.{HasSnaps, IsSnap, snaps_after, snaps_opening}
 
 -- ---- what changes at a place
-
-change_here : {X : Type 0} (f : X → X) (xs : List X) (n : ℕ) → nth (change_nth f xs n) n ≡ option_map f (nth xs n)
-change_here f xs zero = refl
-change_here f [] (suc n) = refl
-change_here f (x ∷ xs) (suc zero) = refl
-change_here f (x ∷ xs) (suc (suc n)) = change_here f xs (suc n)
-
-change_elsewhere : {X : Type 0} (f : X → X) (xs : List X) (n c : ℕ) → (c ≡ n → ⊥) → nth (change_nth f xs n) c ≡ nth xs c
-change_elsewhere f xs n zero ne = refl
-change_elsewhere f [] n (suc c) ne = refl
-change_elsewhere f (x ∷ xs) zero (suc c) ne = refl
-change_elsewhere f (x ∷ xs) (suc zero) (suc zero) ne = absurd (ne refl)
-change_elsewhere f (x ∷ xs) (suc zero) (suc (suc c)) ne = refl
-change_elsewhere f (x ∷ xs) (suc (suc n)) (suc zero) ne = refl
-change_elsewhere f (x ∷ xs) (suc (suc n)) (suc (suc c)) ne = change_elsewhere f xs (suc n) (suc c) (λ e. ne (ap (λ k. suc k) e))
-
-nth-map : {X Y : Type 0} (f : X → Y) (xs : List X) (c : ℕ) → nth (map f xs) c ≡ option_map f (nth xs c)
-nth-map f xs zero = refl
-nth-map f [] (suc c) = refl
-nth-map f (x ∷ xs) (suc zero) = refl
-nth-map f (x ∷ xs) (suc (suc c)) = nth-map f xs (suc c)
 
 -- a number of a client's session, or 0 where there is none
 abbrev measured : (Session → ℕ) → List Session → ℕ → ℕ
@@ -66,7 +46,7 @@ measured_change m f xs n c same = by (c == n) refl
     by false e = ap (λ o. option_map_or m o 0) (change_elsewhere f xs n c (eqb-false c n e))
 
 measured_map : (m : Session → ℕ) (f : Session → Session) (xs : List Session) (c : ℕ) → ((x : Session) → m (f x) ≡ m x) → measured m (map f xs) c ≡ measured m xs c
-measured_map m f xs c same = ap (λ o. option_map_or m o 0) (nth-map f xs c) ∙ same_measure m f (nth xs c) (λ x at. same x)
+measured_map m f xs c same = ap (λ o. option_map_or m o 0) (nth_in_map f xs c) ∙ same_measure m f (nth xs c) (λ x at. same x)
 
 -- after a stop the sessions are abandoned
 measured_stop : (m : Session → ℕ) (w : Setting) (s : State) (o : Option ArmedStop) (c : ℕ) → ((x : Session) → m (abandoned x) ≡ m x) → measured m (option_map_or (λ stop. restarted w s) o s).sessions c ≡ measured m s.sessions c
@@ -191,15 +171,6 @@ module _ (script : Workload) (base : ℕ) where
           subst (λ k. unwrap_or (nth bs k) 0 ≤ unwrap_or (nth (change_nth (λ old. q) bs d) k) 0) (sym same) (omega (arith, new, less))
       by false e o at = let same : unwrap_or (nth (change_nth (λ old. q) bs d) c) 0 ≡ unwrap_or (nth bs c) 0 = ap (λ o. unwrap_or o 0) (change_elsewhere (λ old. q) bs d c (eqb-false c d e)) in omega (arith, same)
 
-below_whole : (g b len : ℕ) → 1 ≤ g → b % g ≡ 0 → b ≤ len → b ≤ len - len % g
-below_whole g b len pos whole within =
-    let s : g * (b / g) + b % g ≡ b = omega arith in
-    let l : g * (len / g) + len % g ≡ len = omega arith in
-    let turned = mul_comm (b / g) g in
-    let d : b / g ≤ len / g = le-div (b / g) len g pos (omega (arith, turned, s, whole, within)) in
-    let m = mul-le-mul_left g d in
-    omega (arith, s, l, m, whole)
-
 abbrev g_of : Workload → ℕ
 g_of script = script.shape.group
 
@@ -212,9 +183,9 @@ stop_rises script u len b k (Some stop) some longer snaps le = by (nth u.boards 
     by None at = let zero_here : board_of u k ≡ 0 = ap (λ o. unwrap_or o 0) at in omega (arith, le, zero_here)
     by (Some board) at =
         let here : board_of u k ≡ board = ap (λ o. unwrap_or o 0) at in
-        let new : unwrap_or (nth (map (λ board. whole_groups script.shape (length u.log)) u.boards) k) 0 ≡ whole_groups script.shape (length u.log) = ap (λ o. unwrap_or o 0) (nth-map (λ board. whole_groups script.shape (length u.log)) u.boards k ∙ ap (option_map (λ board. whole_groups script.shape (length u.log))) at) in
-        let snap : IsSnap (g_of script) len board = all_at_nth (IsSnap (g_of script) len) u.boards k board snaps at in
-        let low = below_whole (g_of script) board (length u.log) some snap.whole (let within = snap.within in omega (arith, within, longer)) in
+        let new : unwrap_or (nth (map (λ board. whole_groups script.shape (length u.log)) u.boards) k) 0 ≡ whole_groups script.shape (length u.log) = ap (λ o. unwrap_or o 0) (nth_in_map (λ board. whole_groups script.shape (length u.log)) u.boards k ∙ ap (option_map (λ board. whole_groups script.shape (length u.log))) at) in
+        let snap : IsSnap (g_of script) len board = all_nth (IsSnap (g_of script) len) u.boards k board snaps at in
+        let low = whole_below (g_of script) board (length u.log) some snap.whole (let within = snap.within in omega (arith, within, longer)) in
         omega (arith, le, here, new, low)
 
 -- no event takes a server back
@@ -246,9 +217,6 @@ snaps_run script found first s led = run_keeps script (HasSnaps (g_of script)) (
 
 -- ---- the programs of a client
 
-abbrev one_if : Bool → ℕ
-one_if b = if b then 1 else 0
-
 abbrev begun_one : Session → ℕ
 begun_one x = one_if (is_begun x.phase)
 
@@ -278,11 +246,7 @@ was_begun : (w : Setting) (s : State) (client : ℕ) → client_passes w s clien
 was_begun w s client may x at = (passed (nth w.homes client) (nth s.sessions client) x (λ home session. is_begun session.phase) may at).1
 
 was_idle : (w : Setting) (s : State) (client : ℕ) → client_passes w s client (may_begin s) ≡ true → (x : Session) → nth s.sessions client ≡ Some x → is_begun x.phase ≡ false
-was_idle w s client may x at = untrue (is_begun x.phase) (and_parts (not (is_begun x.phase)) _ (passed (nth w.homes client) (nth s.sessions client) x (may_begin s) may at).1).0
-  where
-    untrue : (b : Bool) → not b ≡ true → b ≡ false
-    untrue true is = absurd (true≢false (sym is))
-    untrue false is = refl
+was_idle w s client may x at = not-true (is_begun x.phase) (and_parts (not (is_begun x.phase)) _ (passed (nth w.homes client) (nth s.sessions client) x (may_begin s) may at).1).0
 
 begin_steps : (snap : ℕ) (xs : List Session) (n c : ℕ) → ((x : Session) → nth xs n ≡ Some x → is_begun x.phase ≡ false) → (x : Session) → nth xs n ≡ Some x → measured steps_of (change_nth (begun_at snap) xs n) c ≡ measured steps_of xs c + one_if (n == c)
 begin_steps snap xs n c idle x at = by (n == c) refl
@@ -339,14 +303,6 @@ counted : (script : Workload) (c : ℕ) (events : List Event) (s t : State) → 
 counted script c [] s t led = let same : s ≡ t = cc led in let e : measured steps_of s.sessions c ≡ measured steps_of t.sessions c = ap (λ (x : State). measured steps_of x.sessions c) same in omega (arith, e)
 counted script c (event ∷ events) s t led = counted_by script c event events s t (λ u. counted script c events u t) (may_happen script s event) refl led
 
-run_by : (script : Workload) (a b : List Event) (t : State) → ((s u : State) → run script s a ≡ Some u → run script s (a ++ b) ≡ run script u b) → (o : Option State) → option_and_then (λ n. run script n a) o ≡ Some t → option_and_then (λ n. run script n (a ++ b)) o ≡ run script t b
-run_by script a b t on None led = absurd (cc led)
-run_by script a b t on (Some u) led = on u t led
-
-run_on : (script : Workload) (a b : List Event) (s t : State) → run script s a ≡ Some t → run script s (a ++ b) ≡ run script t b
-run_on script [] b s t led = let same : s ≡ t = cc led in ap (λ (x : State). run script x b) same
-run_on script (e ∷ a) b s t led = run_by script a b t (λ u v. run_on script a b u v) (step script s e) led
-
 -- the event that comes next may happen
 next_enabled : (script : Workload) (event : Event) (rest : List Event) (s end : State) → run script s (event ∷ rest) ≡ Some end → enabled (setting_of script) s event ≡ true
 next_enabled script event rest s end led = by (may_happen script s event) refl led
@@ -356,7 +312,7 @@ next_enabled script event rest s end led = by (may_happen script s event) refl l
     by false may led = absurd (cc led)
 
 fresh_measure : (m : Session → ℕ) (homes : List Home) (c : ℕ) (h : Home) → nth homes c ≡ Some h → measured m (map (λ home. fresh_session) homes) c ≡ m fresh_session
-fresh_measure m homes c h at = ap (λ o. option_map_or m o 0) (nth-map (λ home. fresh_session) homes c ∙ ap (option_map (λ home. fresh_session)) at)
+fresh_measure m homes c h at = ap (λ o. option_map_or m o 0) (nth_in_map (λ home. fresh_session) homes c ∙ ap (option_map (λ home. fresh_session)) at)
 
 some_home : (home : Option Home) (o : Option Session) (test : Home → Session → Bool) → option_map_or (λ h. option_map_or (test h) o false) home false ≡ true → (h : Home) × (home ≡ Some h)
 some_home None o test is = absurd (true≢false (sym is))

@@ -18,6 +18,7 @@ use Rattle.hy_base.specs.declared.workload.Event.{Event}
 use Rattle.hy_base.specs.declared.workload.Program.{Program}
 use Rattle.hy_base.specs.Entry.{is_in_span, is_rising, touches}
 use Rattle.hy_base.specs.Script.{Workload}
+use Rattle.hy_base.proofs.ListLemmas.{all_map, item_at}
 use Rattle.hy_rules.specs.Exec.{Effects, no_effects, pair_before, after_writes, exec, intention}
 use Rattle.hy_rules.specs.History.{committed_at, writes_at, history}
 use Rattle.hy_base.specs.Verdicts.{is_commit}
@@ -33,7 +34,6 @@ use Rattle.hy_serial.proofs.Pairs.{AllPairs-map, PairsRise, kept}
 use Rattle.hy_serial.proofs.Agreement.{Covers, same_all}
 use Rattle.hy_serial.proofs.Maps.{write_of, writes_of_rows}
 use Rattle.hy_serial.proofs.Histories.{first_map, first_map_rises, next_map, live_is_first, all_judged, serial_at, same_as_snapshot}
-use Rattle.hy_serial.proofs.Snapshots.{all_from}
 use Rattle.hy_serial.proofs.Told.{IsLeftByProgram, EntryTold, ReadTold, EndingTold, Told, appended_at, within_log}
 use Rattle.hy_serial.proofs.RunTold.{run_told}
 
@@ -52,8 +52,8 @@ covered : (server client snap : ℕ) (e : Effects) → Covers (touches (intentio
 covered server client snap e =
     let q : ℕ → Bool = touches (intention server client snap e) in
     record {
-      points = all_from (λ key. list_any (λ p. p == key) e.points ≡ true) (λ key. q key ≡ true) (λ key h. or_left (list_any (λ p. p == key) e.points) _ h) e.points (points_among e.points e.points (λ key h. h));
-      spans = all_from (λ s. (key : ℕ) → is_in_span key s ≡ true → list_any (is_in_span key) e.spans ≡ true) (λ s. (key : ℕ) → is_in_span key s ≡ true → q key ≡ true)
+      points = all_map (λ key. list_any (λ p. p == key) e.points ≡ true) (λ key. q key ≡ true) (λ key h. or_left (list_any (λ p. p == key) e.points) _ h) e.points (points_among e.points e.points (λ key h. h));
+      spans = all_map (λ s. (key : ℕ) → is_in_span key s ≡ true → list_any (is_in_span key) e.spans ≡ true) (λ s. (key : ℕ) → is_in_span key s ≡ true → q key ≡ true)
           (λ s h key k. or_right (list_any (λ p. p == key) e.points) _ (or_left (list_any (is_in_span key) e.spans) _ (h key k))) e.spans (spans_among e.spans e.spans (λ key h. h));
     }
 
@@ -200,17 +200,12 @@ module _ (script : Workload) (before : List EntryKind) (events : List Event) (t 
 
   -- ---- the map
 
-  item : {X : Type 0} (xs : List X) (n : ℕ) → n < length xs → (x : X) × (slice_get xs n ≡ Some x)
-  item [] n lt = absurd (omega (arith, lt))
-  item (x ∷ xs) zero lt = (x, refl)
-  item (x ∷ xs) (suc n) lt = item xs n (omega (arith, lt))
-
   -- after each position the serial execution holds what the committed entries recorded
   maps : (n : ℕ) → n ≤ length log → serial_map r n ≡ map_at n
   maps zero le = refl
   maps (suc n) le =
-      let e = item log n (omega (arith, le)) in
-      let v = item vs n (omega (arith, le, judged)) in
+      let e = item_at log n (omega (arith, le)) in
+      let v = item_at vs n (omega (arith, le, judged)) in
       ap (λ (pairs : List Pair). after_writes pairs (serial_writes r (suc n) pairs)) (maps n (omega (arith, le)))
       ∙ (ap (after_writes (map_at n)) (step_writes n e.0 v.0 e.1 v.1) ∙ sym (next_map log vs n e.0 v.0 e.1 v.1))
 
@@ -250,8 +245,8 @@ module _ (script : Workload) (before : List EntryKind) (events : List Event) (t 
 
   pub serializable : IsSerializable (serial_run script before events t)
   serializable = record {
-    commits = all_from (λ e. EndingTold script log (length before) done e e.ending) (CommitsSerially r) commits done told.each;
-    readers = all_from (λ e. EndingTold script log (length before) done e e.ending) (ReadsSerially r) readers done told.each;
+    commits = all_map (λ e. EndingTold script log (length before) done e e.ending) (CommitsSerially r) commits done told.each;
+    readers = all_map (λ e. EndingTold script log (length before) done e e.ending) (ReadsSerially r) readers done told.each;
     groups = groups;
     rows = groups (length log) whole (omega arith);
   }

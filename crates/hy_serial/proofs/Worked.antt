@@ -1,7 +1,6 @@
 -- Worked runs, executed serially by the definitions: the answers noted at each position, and the map in the end.
 use Rattle.std.proofs.Common.{◌≡◌, ℕ, zero, suc, List, [], ◌∷◌, ◌++◌, refl}
 use Rattle.std.specs.Prelude.{length, map, Option, Some, None, option_map, option_and_then, codes}
-use Rattle.std.specs.Option.{option_map_or}
 use Rattle.std.specs.Fmt.{digits}
 use Prim.Native.String.{String}
 use Rattle.hy_base.specs.declared.record.EntryKind.{EntryKind}
@@ -14,19 +13,14 @@ use Rattle.hy_base.specs.declared.workload.Command.TheVariants.{Get, Put, Del, A
 use Rattle.hy_base.specs.declared.workload.Event.{Event}
 use Rattle.hy_base.specs.declared.workload.Event.TheVariants.{Begin, Append, End, Pad, Publish, Stop}
 use Rattle.hy_base.specs.Script.{Workload}
-use Rattle.hy_rules.specs.Moves.{State}
-use Rattle.hy_rules.specs.Runs.{run, step, next_event, opening_of, answers_to}
+use Rattle.hy_rules.specs.Runs.{run, opening_of, answers_to}
 use Rattle.hy_rules.specs.Serial.{SerialRun, serial_run, serial_map, serial_answers, answers_after}
-
--- the events that the tail rule gives from a state on, at most so many
-abbrev tail : Workload → ℕ → State → List Event
-tail script zero s = []
-tail script (suc n) s = option_map_or (λ event. event ∷ option_map_or (tail script n) (step script s event) []) (next_event script s) []
+use Rattle.hy_rules.proofs.Rows.{tail_events, one_command, two_commands}
 
 -- a script with this schedule, run to its end on a log, as it is executed again
 abbrev finished : List EntryKind → Workload → List Event → Option SerialRun
 finished before script schedule =
-    option_and_then (λ s. let events : List Event = schedule ++ tail script 30 s in option_map (serial_run script before events) (run script (opening_of script before) events)) (run script (opening_of script before) schedule)
+    option_and_then (λ s. let events : List Event = schedule ++ tail_events script 30 s in option_map (serial_run script before events) (run script (opening_of script before) events)) (run script (opening_of script before) schedule)
 
 -- the answers noted at the first positions
 abbrev noted : SerialRun → ℕ → List (Option (List Answer))
@@ -48,12 +42,6 @@ abbrev script : ℕ → ℕ → ℕ → List (List (List Command)) → Workload
 script group window cap clients =
     record { shape = record { group = group; window = window; cap = cap }; servers = 1; clients = map (λ programs. record { server = 1; programs = map (λ commands. record { commands = commands }) programs }) clients }
 
-abbrev one : Command → List (List Command)
-one c = (c ∷ []) ∷ []
-
-abbrev two : Command → Command → List (List Command)
-two c d = (c ∷ d ∷ []) ∷ []
-
 abbrev pair : ℕ → String → Pair
 pair key value = record { key = key; value = codes value }
 
@@ -61,7 +49,7 @@ nothing_to_do : serially [] (script 1 1 8 []) [] ≡ Some ([], [])
 nothing_to_do = refl
 
 -- the second sum ran on the first one's snapshot and aborted: it is no part of the serial execution
-two_sums : serially [] (script 1 1 8 (one (Add 7 1) ∷ one (Add 7 1) ∷ [])) (Begin 1 ∷ Begin 2 ∷ Append 1 ∷ Append 2 ∷ []) ≡ Some (Some (Sum 1 ∷ []) ∷ None ∷ [], pair 7 "1" ∷ [])
+two_sums : serially [] (script 1 1 8 (one_command (Add 7 1) ∷ one_command (Add 7 1) ∷ [])) (Begin 1 ∷ Begin 2 ∷ Append 1 ∷ Append 2 ∷ []) ≡ Some (Some (Sum 1 ∷ []) ∷ None ∷ [], pair 7 "1" ∷ [])
 unfolding digits
 two_sums = refl
 
@@ -71,7 +59,7 @@ unfolding digits
 sums_in_turn = refl
 
 -- the scan ran on the map after position 1, and commits at 3 after a put past the last key that it was given: on the map before position 3 it gives the same
-put_past_span : serially [] (script 1 1 8 (one (Put 3 (codes "c")) ∷ two (Scan 0 18446744073709551615 1) (Put 100 (codes "h")) ∷ one (Put 4 (codes "d")) ∷ []))
+put_past_span : serially [] (script 1 1 8 (one_command (Put 3 (codes "c")) ∷ two_commands (Scan 0 18446744073709551615 1) (Put 100 (codes "h")) ∷ one_command (Put 4 (codes "d")) ∷ []))
     (Begin 1 ∷ Append 1 ∷ Publish 1 1 ∷ Begin 2 ∷ Begin 3 ∷ Append 3 ∷ Append 2 ∷ [])
     ≡ Some (Some (Well ∷ []) ∷ Some (Well ∷ []) ∷ Some (Pairs (pair 3 "c" ∷ []) ∷ Well ∷ []) ∷ [], pair 3 "c" ∷ pair 4 "d" ∷ pair 100 "h" ∷ [])
 unfolding digits
@@ -88,14 +76,14 @@ unfolding digits
 put_and_delete = refl
 
 -- positions 1 and 2 are a put and its filler; the group of positions 3 and 4 fails as a whole
-failed_group : serially [] (script 2 1 8 (one (Put 1 (codes "x")) ∷ two (Get 1) (Put 5 (codes "y")) ∷ one (Put 9 (codes "z")) ∷ []))
+failed_group : serially [] (script 2 1 8 (one_command (Put 1 (codes "x")) ∷ two_commands (Get 1) (Put 5 (codes "y")) ∷ one_command (Put 9 (codes "z")) ∷ []))
     (Begin 1 ∷ Begin 2 ∷ Begin 3 ∷ Append 1 ∷ Pad 1 ∷ Append 2 ∷ Append 3 ∷ []) ≡ Some (Some (Well ∷ []) ∷ None ∷ None ∷ None ∷ [], pair 1 "x" ∷ [])
 unfolding digits
 failed_group = refl
 
 -- entries that the run found count by their recorded writes, and no answers are noted for them
 goes_on_after_filler : serially (Txn (record { server = 1; client = 1; snap = 0; points = []; spans = []; writes = record { key = 1; value = Some (codes "a") } ∷ [] }) ∷ Filler 1 ∷ [])
-    (script 2 2 8 (two (Get 1) (Put 2 (codes "b")) ∷ [])) [] ≡ Some (None ∷ None ∷ Some (Live (codes "a") ∷ Well ∷ []) ∷ None ∷ [], pair 1 "a" ∷ pair 2 "b" ∷ [])
+    (script 2 2 8 (two_commands (Get 1) (Put 2 (codes "b")) ∷ [])) [] ≡ Some (None ∷ None ∷ Some (Live (codes "a") ∷ Well ∷ []) ∷ None ∷ [], pair 1 "a" ∷ pair 2 "b" ∷ [])
 unfolding digits
 goes_on_after_filler = refl
 
@@ -112,7 +100,7 @@ lost_by_a_stop = refl
 
 -- a reader of an old snapshot reads the map after that position, and not the one in the end
 abbrev old_reader : Workload
-old_reader = script 1 1 8 (one (Put 1 (codes "a")) ∷ two (Get 1) (Scan 0 9 3) ∷ (((Put 1 (codes "b") ∷ []) ∷ []) ∷ []))
+old_reader = script 1 1 8 (one_command (Put 1 (codes "a")) ∷ two_commands (Get 1) (Scan 0 9 3) ∷ (((Put 1 (codes "b") ∷ []) ∷ []) ∷ []))
 
 abbrev old_schedule : List Event
 old_schedule = Begin 1 ∷ Append 1 ∷ Publish 1 1 ∷ Begin 2 ∷ Begin 3 ∷ Append 3 ∷ Publish 1 2 ∷ End 2 ∷ []

@@ -1,7 +1,8 @@
 -- Texts of the items of a list, written one after the other.
-use Rattle.std.proofs.Common.{◌≡◌, ℕ, zero, suc, ◌+◌, ◌<◌, ◌≤◌, arith, List, [], ◌∷◌, ◌++◌, length, drop, get_or, refl, sym, ap, ◌∙◌, append_assoc, append-nil}
+use Rattle.std.proofs.Common.{◌≡◌, ℕ, zero, suc, ◌+◌, ◌<◌, ◌≤◌, arith, List, [], ◌∷◌, ◌++◌, length, drop, get_or, sym, ap, ◌∙◌, append_assoc, append-nil}
 use Rattle.std.specs.Prelude.{flat_map}
 use Rattle.std.specs.List.{enumerate_from}
+use Rattle.std.proofs.lemmas.List.{drop_all}
 
 -- the list past a place begins with the item there
 past_place : {X : Type 0} (xs : List X) (n : ℕ) (d x : X) → n < length xs → x ≡ get_or xs n d → drop n xs ≡ x ∷ drop (suc n) xs
@@ -14,12 +15,6 @@ next_item xs n d x within is =
     let same : suc n ≡ n + 1 = omega arith in
     past_place xs n d x within is ∙ ap (λ m. x ∷ drop m xs) same
 
-no_item : {X : Type 0} (xs : List X) (n : ℕ) → length xs ≤ n → drop n xs ≡ []
-no_item [] zero ended = refl
-no_item [] (suc n) ended = refl
-no_item (x ∷ xs) zero ended = absurd (omega (arith, ended))
-no_item (x ∷ xs) (suc n) ended = no_item xs n (omega (arith, ended))
-
 module _ {X : Type 0} (xs : List X) (n : ℕ) (start out : List ℕ) where
   -- the next item is written
   pub item_written : (f : X → List ℕ) (d x : X) (now : List ℕ) → n < length xs → x ≡ get_or xs n d → now ≡ out ++ f x → out ++ flat_map f (drop n xs) ≡ start → now ++ flat_map f (drop (n + 1) xs) ≡ start
@@ -28,7 +23,7 @@ module _ {X : Type 0} (xs : List X) (n : ℕ) (start out : List ℕ) where
 
   -- all are
   pub items_written : (f : X → List ℕ) → length xs ≤ n → out ++ flat_map f (drop n xs) ≡ start → out ≡ start
-  items_written f ended before = sym (append-nil out) ∙ ap (λ l. out ++ flat_map f l) (sym (no_item xs n ended)) ∙ before
+  items_written f ended before = sym (append-nil out) ∙ ap (λ l. out ++ flat_map f l) (sym (drop_all n xs ended)) ∙ before
 
   -- the same of items with their numbers
   pub numbered_written : (f : ℕ × X → List ℕ) (d x : X) (now : List ℕ) → n < length xs → x ≡ get_or xs n d → now ≡ out ++ f (n + 1, x)
@@ -38,4 +33,4 @@ module _ {X : Type 0} (xs : List X) (n : ℕ) (start out : List ℕ) where
       ap (λ o. o ++ rest) wrote ∙ append_assoc out (f (n + 1, x)) rest ∙ ap (λ l. out ++ flat_map f (enumerate_from (n + 1) l)) (sym (next_item xs n d x within is)) ∙ before
 
   pub all_numbered : (f : ℕ × X → List ℕ) → length xs ≤ n → out ++ flat_map f (enumerate_from (n + 1) (drop n xs)) ≡ start → out ≡ start
-  all_numbered f ended before = sym (append-nil out) ∙ ap (λ l. out ++ flat_map f (enumerate_from (n + 1) l)) (sym (no_item xs n ended)) ∙ before
+  all_numbered f ended before = sym (append-nil out) ∙ ap (λ l. out ++ flat_map f (enumerate_from (n + 1) l)) (sym (drop_all n xs ended)) ∙ before

@@ -6,7 +6,7 @@ use Rattle.hy_base.specs.declared.record.Row.{Row}
 use Rattle.hy_base.specs.Rows.{Each, IsOrdered}
 use Rattle.hy_base.proofs.EachLemmas.{Each-append, Each-left, Each-right, Each-map}
 use Rattle.hy_tree.specs.TreeRows.{AreRows, InBlock, IsFork, greatest_writer}
-use Rattle.hy_tree.proofs.Bits.{wider_same, lower, half_power, stem_prefix}
+use Rattle.hy_tree.proofs.Bits.{wider_same, half_power, stem_prefix, lt_from_quotients}
 
 pub in_block : (b q : ℕ) (Q : Row → Type 0) → ((r : Row) → r.key / 2 ^ b ≡ q → Q r) → (xs : List Row) → InBlock b q xs → Each Q xs
 in_block b q Q f xs i = Each-map (λ r. r.key / 2 ^ b ≡ q) Q f xs i
@@ -42,7 +42,7 @@ ordered_right (x ∷ xs) ys a = ordered_right xs ys a.1
 
 pub below_fork : {b p : ℕ} {l r : List Row} → IsFork b p l r → AllBelow l r
 below_fork {b} {p} {l} {r} f =
-    Each-map _ _ (λ x hx. Each-map _ _ (λ y hy. lower x.key y.key b (omega arith)) r f.right_in) l f.left_in
+    Each-map _ _ (λ x hx. Each-map _ _ (λ y hy. lt_from_quotients x.key y.key b (omega arith)) r f.right_in) l f.left_in
 
 pub ordered_fork : {b p : ℕ} {l r : List Row} → IsFork b p l r → IsOrdered l → IsOrdered r → IsOrdered (l ++ r)
 ordered_fork {b} {p} {l} {r} f ol or = ordered_append l r ol or (below_fork f)

@@ -1,6 +1,6 @@
 use Rattle.std.proofs.Common.{sym, ◌∙◌}
-use Rattle.hy_base.proofs.EachLemmas.{never}
-use Rattle.hy_mark.proofs.Facts.{all_none}
+use Rattle.std.proofs.lemmas.Bool.{false≢true}
+use Rattle.hy_base.proofs.ListLemmas.{all_none}
 use Rattle.hy_mark.proofs.Ordering.{first_left, first_right, first_both, before_all, same_block}
 use Rattle.hy_mark.proofs.pairs.first_of.Goals as goal
 
@@ -22,4 +22,4 @@ pub returns-else-is_before-2 : goal.returns-else-is_before-2
 returns-else-is_before-2 c = λ a b.
     rw c.min-dependency.ensures
     (first_both c.in-Some-Some.field-0-0-0.now c.in-Some-Some.field-0-0-1.now _ _ _ _ c.in-Some-Some.ensures.cases.0 c.in-Some-Some.ensures'.cases.0
-    (same_block c.in-Some-Some.field-0-0-0.now.block c.in-Some-Some.field-0-0-1.now.block (λ t. never (sym c.if-is_before.false ∙ (c.is_before.ensures ∙ t))) (λ t. never (sym c.if-is_before-2.false ∙ (c.is_before-else-is_before.ensures ∙ t)))))
+    (same_block c.in-Some-Some.field-0-0-0.now.block c.in-Some-Some.field-0-0-1.now.block (λ t. absurd (false≢true (sym c.if-is_before.false ∙ (c.is_before.ensures ∙ t)))) (λ t. absurd (false≢true (sym c.if-is_before-2.false ∙ (c.is_before-else-is_before.ensures ∙ t))))))

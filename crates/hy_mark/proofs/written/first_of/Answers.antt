@@ -1,5 +1,5 @@
 use Rattle.std.proofs.Common.{arith}
-use Rattle.hy_mark.proofs.Facts.{all_none}
+use Rattle.hy_base.proofs.ListLemmas.{all_none}
 use Rattle.hy_mark.proofs.Writing.{left_first, right_first, both_first, after_first}
 use Rattle.hy_mark.proofs.written.first_of.Goals as goal
 

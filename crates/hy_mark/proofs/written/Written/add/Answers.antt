@@ -1,8 +1,7 @@
 use Rattle.std.proofs.Common.{◌≡◌, sym, ◌∙◌, subst}
 use Rattle.hy_base.specs.Lists.{put}
 use Rattle.hy_base.specs.Rows.{IsOrdered, row_before}
-use Rattle.hy_base.proofs.RowLemmas.{ordered_put}
-use Rattle.hy_mark.proofs.Writing.{put_last}
+use Rattle.hy_base.proofs.RowLemmas.{ordered_put, put_last}
 use Rattle.hy_mark.proofs.written.Written.add.Goals as goal
 
 in_place : (c : goal.In_ok-push) → c.push.new.self ≡ put row_before c.args.row c.args.self.now
