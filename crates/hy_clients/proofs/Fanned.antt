@@ -1,7 +1,7 @@
 -- Tasks that have ended, and what the passes of a run keep.
-use Rattle.std.proofs.Common.{◌≡◌, ◌⊎◌, inl, inr, ℕ, suc, ◌+◌, ◌-◌, ◌<◌, ◌≤◌, Bool, true, false, List, [], ◌∷◌, ◌++◌, length, take, drop, get_or, map, Some, refl, ap, sym, ◌∙◌, subst, arith, append_assoc, length-append}
+use Rattle.std.proofs.Common.{◌≡◌, ◌⊎◌, inl, inr, ℕ, suc, ◌+◌, ◌-◌, ◌<◌, ◌≤◌, Bool, true, false, List, [], ◌∷◌, ◌++◌, length, get_or, map, Some, refl, ap, sym, ◌∙◌, subst, arith, append_assoc, length-append}
 use Rattle.std.specs.Prelude.{All, filter, slice_get}
-use Rattle.std.proofs.lemmas.List.{append-nil, map-append, take_at}
+use Rattle.std.proofs.lemmas.List.{append-nil, map-append, nil_from_length}
 use Rattle.std.proofs.lemmas.List.Elements.{All-head, All-tail, All-push, All-weaker}
 use Rattle.std.proofs.Math.Seq.{get_or-append_seam}
 use mathlib.Core.List.{IsPrefix}
@@ -162,19 +162,11 @@ served_more script list later number (c ∷ clients) (t ∷ told) p all =
       served_more script list later (number + 1) clients told p all.1,
     )
 
-nothing_left : {X : Type 0} (xs : List X) → length xs ≡ 0 → xs ≡ []
-nothing_left [] none = refl
-nothing_left (x ∷ xs) none = absurd (omega (arith, none))
-
 -- where all passes are joined and all tasks are whole, all clients were served
 pub gathered : (lock : Lock) (script : Workload) (old pass : Known Occurrence) (tasks done rest : List TaskView) (all : List (List Answered)) (whole : Bool) → All (IsEndedTask lock script) tasks → AreNumbered 1 tasks → length tasks ≡ length script.clients
     → Gathers lock script old pass tasks done rest all whole → length rest ≡ 0 → whole ≡ true → AllServed script pass.seen 1 script.clients all
 gathered lock script old pass tasks done rest all whole ended numbered count end none held =
-    let same : tasks ≡ done = end.tasks_are ∙ (ap (λ (l : List TaskView). done ++ l) (nothing_left rest none) ∙ append-nil done) in
+    let same : tasks ≡ done = end.tasks_are ∙ (ap (λ (l : List TaskView). done ++ l) (nil_from_length rest none) ∙ append-nil done) in
     let at = λ (k : ℕ). (let e : 1 + k ≡ suc k = omega arith in let f : nth script.clients (1 + k) ≡ slice_get script.clients k = ap (nth script.clients) e in f) in
     subst (AllServed script pass.seen 1 script.clients) (sym end.told)
     (all_served lock script pass.seen 1 script.clients done at (omega (arith, ap length same, count)) (subst (AreNumbered 1) same numbered) (subst (All (IsEndedTask lock script)) same ended) (end.all_whole held) end.seen)
-
--- a list whose beginning was changed, as long as before
-pub whole_back : {X : Type 0} (n : ℕ) (xs ys : List X) → n ≡ length ys → length xs ≡ length ys → take n (xs ++ drop (length xs) ys) ≡ xs
-whole_back n xs ys all same = take_at xs (drop (length xs) ys) n (omega (arith, all, same))

@@ -4,6 +4,7 @@ use Rattle.std.specs.Prelude.{All, Option, is_some, ◌==◌}
 use Rattle.std.specs.List.{list_all, filter_map}
 use Rattle.std.proofs.lemmas.List.{length-map}
 use Rattle.std.proofs.lemmas.List.Elements.{All-weaker}
+use Rattle.std.proofs.lemmas.Bool.{and_from}
 use Rattle.hy_base.specs.Log.{IsLawful}
 use Rattle.hy_base.specs.Shape.{IsGoodShape}
 use Rattle.hy_base.specs.Script.{Workload, IsScript}
@@ -22,7 +23,6 @@ use Rattle.hy_hub.specs.Trace.{setting_in, state_after}
 use Rattle.hy_hub.specs.Hub.{IsBoard}
 use Rattle.hy_hub.specs.Calls.{events_in_list}
 use Rattle.hy_hub.specs.Close.{IsClosed}
-use Rattle.hy_base.proofs.NthLemmas.{both}
 use Rattle.hy_hub.proofs.Told.{told_setting}
 use Rattle.hy_clients.specs.declared.answered.Answered.{Answered}
 use Rattle.hy_clients.specs.Passing.{OpensInLog, OpensStanding, opened_log, opened_start}
@@ -80,7 +80,7 @@ module _ {D : Type 0} {tells : Bool} {content : D → Content} {faults : ℕ} {l
         end = state_after list;
         moves = mine.moves;
         calm = mine.calm;
-        finished = both _ _ mine.done ends;
+        finished = and_from _ _ mine.done ends;
         begins = found_first list closed.told;
         rollers = at_end;
         log_is = record {

@@ -6,6 +6,7 @@ use Rattle.std.proofs.lemmas.List.{take_all}
 use Rattle.std.proofs.lemmas.List.Elements.{All-nil, All-cons}
 use Rattle.std.proofs.lemmas.Bool.Decides.{nat_tests}
 use mathlib.Core.List.{IsPrefix}
+use Rattle.std.proofs.lemmas.Bool.{and_parts}
 use Rattle.hy_base.specs.Faults.{Rose}
 use Rattle.hy_base.specs.Log.{HaveLawfulSnaps, IsLawful}
 use Rattle.hy_base.specs.Script.{Workload}
@@ -26,7 +27,6 @@ use Rattle.hy_hub.specs.Close.{IsClosed}
 use Rattle.hy_hub.specs.Initial.{IsInitial}
 use Rattle.hy_hist.proofs.Lists.{prefix_self}
 use Rattle.hy_base.specs.declared.workload.Home.{Home}
-use Rattle.hy_base.proofs.NthLemmas.{left_of, right_of}
 use Rattle.hy_hub.proofs.Told.{told_setting}
 use Rattle.hy_hub.proofs.Passing.{log_more}
 use Rattle.hy_clients.specs.Passing.{OpensStanding, opened_log, opened_faults}
@@ -131,8 +131,8 @@ initial_cut tells content log back entries start servers homes shape initial sam
 pub all_whole : (len : ℕ) (rs : List Roll) → list_all (λ board. board == len) (map rolled_upto rs) ≡ true → All (λ r. rolled_upto r ≡ len) rs
 all_whole len [] ends = All-nil _
 all_whole len (r ∷ rs) ends =
-    let same : rolled_upto r ≡ len = let e = left_of (rolled_upto r == len) _ ends in grind (arith, nat_tests) in
-    All-cons (λ r. rolled_upto r ≡ len) r rs same (all_whole len rs (right_of (rolled_upto r == len) _ ends))
+    let same : rolled_upto r ≡ len = let e = (and_parts (rolled_upto r == len) _ ends).0 in grind (arith, nat_tests) in
+    All-cons (λ r. rolled_upto r ≡ len) r rs same (all_whole len rs (and_parts (rolled_upto r == len) _ ends).1)
 
 pub all_stand : (o : Origin) (log : List EntryKind) (rs : List Roll) → Stands (take (rolled_upto o.start) o.found) o.start → All (IsBoard o log) rs → All (λ r. rolled_upto r ≡ length log) rs → All (λ r. Stands log r) rs
 all_stand o log rs stood boards whole = λ k d below.

@@ -1,11 +1,12 @@
 -- The turns of a client in the hub's list.
-use Rattle.std.proofs.Common.{◌≡◌, ℕ, suc, ◌+◌, ◌*◌, ◌<◌, Bool, true, false, cond, List, [], ◌∷◌, ◌++◌, length, refl, ap, sym, ◌∙◌, subst, arith}
+use Rattle.std.proofs.Common.{◌≡◌, ℕ, suc, ◌+◌, ◌*◌, Bool, true, false, cond, List, [], ◌∷◌, ◌++◌, length, refl, ap, sym, ◌∙◌, subst, arith}
 use Rattle.std.specs.Prelude.{slice_get, filter, Some, None, ◌==◌, if◌then◌else◌}
 use Rattle.std.proofs.lemmas.Bool.{ne_eqb}
 use Rattle.std.proofs.lemmas.List.Sums.{length-filter}
 use mathlib.Core.List.{IsPrefix}
 use Rattle.hy_base.specs.Script.{Workload}
 use Rattle.hy_hist.specs.Passes.{Known, Makes, made, masked, at_place, count_made}
+use Rattle.hy_hist.proofs.Made.{at_before}
 use Rattle.hy_hub.specs.declared.occurrence.Occurrence.{Occurrence}
 use Rattle.hy_hub.specs.Calls.{placed_at}
 use Rattle.hy_hub.specs.Turns.{is_occurrence_of}
@@ -20,12 +21,6 @@ not_kept true x y never = absurd (never refl)
 not_kept false x y never = refl
 
 module _ {T : Type 0} where
-  made_behind : (i j : ℕ) (xs : List T) (bs : List Bool) → i < j → at_place i (masked j xs bs) ≡ None
-  made_behind i j [] bs lt = refl
-  made_behind i j (y ∷ ys) [] lt = refl
-  made_behind i j (y ∷ ys) (true ∷ bs) lt = rw (ne_eqb j i (λ e. omega arith)) (made_behind i (suc j) ys bs (omega arith))
-  made_behind i j (y ∷ ys) (false ∷ bs) lt = made_behind i (suc j) ys bs (omega arith)
-
   later_place : (j k : ℕ) (x y : T) (es : List (ℕ × T)) → at_place (j + suc k) ((j, x) ∷ es) ≡ Some y → at_place (suc j + k) es ≡ Some y
   later_place j k x y es h =
       let next : j + suc k ≡ suc j + k = omega arith in
@@ -43,7 +38,7 @@ module _ {T : Type 0} where
   all_made is j (x ∷ xs) more (true ∷ bs) all =
       ap (λ l. cond (is x) ((j, x) ∷ l) l) (all_made is (suc j) xs more bs (λ k y e z. later_place j k x y (masked (suc j) xs bs) (all (suc k) y e z)))
   all_made is j (x ∷ xs) more (false ∷ bs) all =
-      let none : at_place (j + 0) (masked (suc j) xs bs) ≡ None = made_behind (j + 0) (suc j) xs bs (omega arith) in
+      let none : at_place (j + 0) (masked (suc j) xs bs) ≡ None = at_before (j + 0) (suc j) xs bs (omega arith) in
       let rest = all_made is (suc j) xs more bs (λ k y e z. let next : j + suc k ≡ suc j + k = omega arith in subst (λ n. at_place n (masked (suc j) xs bs) ≡ Some y) next (all (suc k) y e z)) in
       rest ∙ sym (not_kept (is x) _ _ (λ y. absurd (cc (none, all 0 x refl y))))
 

@@ -4,7 +4,7 @@ use Rattle.std.specs.Prelude.{Result, Ok, Err, All, unwrap_or, ◌==◌}
 use Rattle.std.specs.List.{list_all}
 use Rattle.std.proofs.lemmas.List.{append-nil, length-drop, length-take-le, length-replicate, take_all}
 use Rattle.std.proofs.lemmas.Bool.Decides.{nat_tests}
-use Rattle.hy_base.specs.declared.layout.Shape.{Shape}
+use Rattle.std.proofs.lemmas.Bool.{and_from, and_parts}
 use Rattle.hy_base.specs.declared.record.EntryKind.{EntryKind}
 use Rattle.hy_base.specs.declared.record.EntryKind.TheVariants.{Filler}
 use Rattle.std.specs.declared.alloc.AllocError.{AllocError}
@@ -13,6 +13,7 @@ use Rattle.hy_base.specs.declared.workload.Event.TheVariants.{Pad, Publish}
 use Rattle.hy_base.specs.Shape.{whole_groups}
 use Rattle.hy_base.specs.Lists.{nth, change_nth}
 use Rattle.hy_base.specs.Script.{Workload}
+use Rattle.hy_rolling.proofs.Cuts.{rolled_on}
 use Rattle.hy_hist.specs.Passes.{Lock, Known, made}
 use Rattle.hy_rules.specs.Moves.{Setting, State, after, board_of}
 use Rattle.hy_rolling.specs.Rolling.{Roll, rolled_upto, roll_on}
@@ -28,24 +29,18 @@ use Rattle.hy_hub.specs.Trace.{setting, opening_state, setting_in, state_after}
 use Rattle.hy_hub.specs.Hub.{IsBoardAt, IsHubHistory}
 use Rattle.hy_hub.specs.Calls.{OneTurn, PadTurn, PadDoes, LookDoes, PublishDoes, TraceDoes, IsRollerOf, len_of, lack_of, events_in_list}
 use Rattle.hy_hub.specs.Laws.{IsPadded, IsPublished}
-use Rattle.hy_base.proofs.NthLemmas.{left_of, right_of, both}
 use Rattle.hy_hub.proofs.Told.{told_setting}
-use Rattle.hy_hub.proofs.Rolls.{rolled_on, filled_whole}
+use Rattle.hy_hub.proofs.Rolls.{filled_whole}
 use Rattle.hy_hub.proofs.Padding.{missing_is}
 use Rattle.hy_hub.proofs.Events.{quiet_led}
 use Rattle.hy_hub.proofs.Later.{goes_on_law, unarmed_led, opened_on}
+use Rattle.hy_hub.proofs.Behind.{nothing_more, group_at}
 use Rattle.hy_clients.specs.Passing.{IsRunPass}
 
 -- ---- what every list of a hub has
 
 pub unarmed_at : (list : List Occurrence) → IsHubHistory list → (state_after list).armed ≡ None
 unarmed_at list is = let t = is.told in sym (ap (λ (s : State). s.armed) t.leads) ∙ unarmed_led (setting is.opened) (opening_state is.opened) t.past t.moves refl
-
-pub shape_at : (list : List Occurrence) (is : IsHubHistory list) → (setting_in list).shape ≡ is.opened.shape
-shape_at list is = ap (λ (w : Setting). w.shape) (told_setting is.opened list _ _ is.told)
-
-group_at : (list : List Occurrence) → IsHubHistory list → 1 ≤ (setting_in list).shape.group
-group_at list is = subst (λ (s : Shape). 1 ≤ s.group) (sym (shape_at list is)) is.good.group.at_least
 
 pub board_count : (list : List Occurrence) → IsHubHistory list → length (state_after list).boards ≡ (setting_in list).servers
 board_count list is = is.servers ∙ sym (ap (λ (w : Setting). w.servers) (told_setting is.opened list _ _ is.told))
@@ -59,9 +54,6 @@ low_board o len (b ∷ bs) (suc (suc c)) all = low_board o len bs (suc c) (λ k 
 
 pub board_low : (list : List Occurrence) (server : ℕ) → IsHubHistory list → board_of (state_after list) server ≤ len_of list
 board_low list server is = low_board is.opened (len_of list) (state_after list).boards server is.boards
-
-pub nothing_more : (list added now : List Occurrence) → now ≡ list ++ added → added ≡ [] → now ≡ list
-nothing_more list added now is none = is ∙ (ap (λ l. list ++ l) none ∙ append-nil list)
 
 -- ---- pads
 
@@ -84,7 +76,7 @@ padded padder (Err Device) o past list added now begins calm pos e does held = a
 
 -- ---- looks
 
-roller_at : (list : List Occurrence) (at : ℕ) (r : Roll) → IsRollerOf list at r → rolled_upto r ≡ at
+pub roller_at : (list : List Occurrence) (at : ℕ) (r : Roll) → IsRollerOf list at r → rolled_upto r ≡ at
 roller_at [] at r is = absurd is
 roller_at (Opened o ∷ occurrences) at r is = is.2
 roller_at (Happened event added ∷ occurrences) at r is = absurd is
@@ -145,8 +137,8 @@ publish_adds_nothing server r (Err (Stale board)) list added now is e does = ap 
 -- the first boards are at the end, and the next one comes there too
 pub next_ends : (len : ℕ) (bs : List ℕ) (k : ℕ) → list_all (λ board. board == len) (take k bs) ≡ true → list_all (λ board. board == len) (take (suc k) (change_nth (λ _. len) bs (suc k))) ≡ true
 next_ends len [] k all = refl
-next_ends len (b ∷ bs) zero all = let same : (len == len) ≡ true = grind (arith, nat_tests) in both (len == len) true same refl
-next_ends len (b ∷ bs) (suc k) all = both (b == len) _ (left_of (b == len) _ all) (next_ends len bs k (right_of (b == len) _ all))
+next_ends len (b ∷ bs) zero all = let same : (len == len) ≡ true = grind (arith, nat_tests) in and_from (len == len) true same refl
+next_ends len (b ∷ bs) (suc k) all = and_from (b == len) _ (and_parts (b == len) _ all).0 (next_ends len bs k (and_parts (b == len) _ all).1)
 
 pub one_more_ends : (list later : List Occurrence) (k : ℕ) → (state_after later).log ≡ (state_after list).log → (state_after later).boards ≡ change_nth (λ _. len_of list) (state_after list).boards (k + 1)
     → list_all (λ board. board == length (state_after list).log) (take k (state_after list).boards) ≡ true → list_all (λ board. board == length (state_after later).log) (take (k + 1) (state_after later).boards) ≡ true

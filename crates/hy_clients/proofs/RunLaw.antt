@@ -27,9 +27,7 @@ use Rattle.hy_clients.proofs.Series.{are_served_later}
 use Rattle.hy_clients.proofs.Steady.{opens_steady}
 use Rattle.hy_clients.proofs.Walk.{IsWalked, walk}
 use Rattle.hy_clients.proofs.Running.{AreFit, runs, moves as moves_on, no_stops, all_fit, all_done}
-
-abbrev home_of : Client → Home
-home_of client = record { server = client.server; programs = length client.programs }
+use Rattle.hy_clients.proofs.Settings.{home_of}
 
 -- a client's pass, and what it was told
 pub served_at : (script : Workload) (list : List Occurrence) (number : ℕ) (clients : List Client) (told : List (List Answered)) → AllServed script list number clients told → (k : ℕ) (client : Client) → slice_get clients k ≡ Some client

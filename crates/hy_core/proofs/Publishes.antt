@@ -4,17 +4,18 @@ use Rattle.std.proofs.Math.Nat.{mul-mod_right}
 use Rattle.std.proofs.lemmas.List.{append-nil}
 use Rattle.std.specs.Prelude.{◌&&◌, ◌==◌, nat_lt, nat_le, Some, if◌then◌else◌}
 use Rattle.std.specs.List.{AllByRecursion}
+use Rattle.std.proofs.lemmas.Bool.{and_parts}
 use Rattle.hy_base.specs.declared.record.EntryKind.{EntryKind}
 use Rattle.hy_base.specs.declared.workload.Event.TheVariants.{Publish}
 use Rattle.hy_base.specs.Shape.{IsWithin}
 use Rattle.hy_base.specs.Lists.{nth, change_nth}
 use Rattle.hy_base.specs.Script.{Workload, IsScript}
-use Rattle.hy_base.proofs.NthLemmas.{nth_within, map_change, length_change, left_of, right_of}
+use Rattle.hy_base.proofs.NthLemmas.{nth_within, map_change, length_change, all_nth}
 use Rattle.hy_rolling.specs.Rolling.{Roll, rolled_upto, roll_on}
 use Rattle.hy_rules.specs.Moves.{State, board_of, is_declared, ends_whole_group}
 use Rattle.hy_rules.specs.Runs.{setting_of, may_happen}
 use Rattle.hy_core.specs.Parts.{Holding, IsHolding, IsServerBoard, StepsTo, entries_between, furthest, state_in_course, done_of}
-use Rattle.hy_core.proofs.Beginning.{all_nth, board_is}
+use Rattle.hy_core.proofs.Beginning.{board_is}
 use Rattle.hy_core.proofs.Publishing.{WholeGroups, all_change, between_groups, between_length, server_is}
 use Rattle.hy_core.proofs.Rerolls.{RolledBoard, rolled_board}
 
@@ -28,13 +29,13 @@ pub may_publish : (script : Workload) (h : Holding) (server upto : ℕ) → may_
 may_publish script h server upto may =
     let s : State = state_in_course h in
     let w = setting_of script in
-    let enabled : (is_declared w server && (ends_whole_group w upto && (nat_lt (board_of s server) upto && nat_le upto (length s.log)))) ≡ true = left_of _ true may in
-    let two : (ends_whole_group w upto && (nat_lt (board_of s server) upto && nat_le upto (length s.log))) ≡ true = right_of (is_declared w server) _ enabled in
-    let whole : (upto % script.shape.group == 0) ≡ true = left_of (ends_whole_group w upto) _ two in
-    let rest : (nat_lt (board_of s server) upto && nat_le upto (length s.log)) ≡ true = right_of (ends_whole_group w upto) _ two in
-    let above : nat_lt (board_of s server) upto ≡ true = left_of (nat_lt (board_of s server) upto) _ rest in
-    let within : nat_le upto (length s.log) ≡ true = right_of (nat_lt (board_of s server) upto) _ rest in
-    record { declared = server_is script.servers server (left_of (is_declared w server) _ enabled); whole = grind (arith, whole); above = grind (arith, above); within = grind (arith, within) }
+    let enabled : (is_declared w server && (ends_whole_group w upto && (nat_lt (board_of s server) upto && nat_le upto (length s.log)))) ≡ true = (and_parts _ true may).0 in
+    let two : (ends_whole_group w upto && (nat_lt (board_of s server) upto && nat_le upto (length s.log))) ≡ true = (and_parts (is_declared w server) _ enabled).1 in
+    let whole : (upto % script.shape.group == 0) ≡ true = (and_parts (ends_whole_group w upto) _ two).0 in
+    let rest : (nat_lt (board_of s server) upto && nat_le upto (length s.log)) ≡ true = (and_parts (ends_whole_group w upto) _ two).1 in
+    let above : nat_lt (board_of s server) upto ≡ true = (and_parts (nat_lt (board_of s server) upto) _ rest).0 in
+    let within : nat_le upto (length s.log) ≡ true = (and_parts (nat_lt (board_of s server) upto) _ rest).1 in
+    record { declared = server_is script.servers server (and_parts (is_declared w server) _ enabled).0; whole = grind (arith, whole); above = grind (arith, above); within = grind (arith, within) }
 
 -- ---- where a roll begins
 
@@ -48,7 +49,7 @@ furthest_is P upto best [] p all = p
 furthest_is P upto best (r ∷ rs) p all = furthest_is P upto (if nat_lt (rolled_upto best) (rolled_upto r) && nat_le (rolled_upto r) upto then r else best) rs (further P (nat_lt (rolled_upto best) (rolled_upto r) && nat_le (rolled_upto r) upto) r best all.0 p) all.1
 
 not_passed : (upto : ℕ) (b : Bool) (r best : Roll) → (b && nat_le (rolled_upto r) upto) ≡ true → rolled_upto r ≤ upto
-not_passed upto b r best is = let le = right_of b (nat_le (rolled_upto r) upto) is in grind (arith, le)
+not_passed upto b r best is = let le = (and_parts b (nat_le (rolled_upto r) upto) is).1 in grind (arith, le)
 
 low_so : (upto : ℕ) (b : Bool) (r best : Roll) → (b ≡ true → rolled_upto r ≤ upto) → rolled_upto best ≤ upto → rolled_upto (if b then r else best) ≤ upto
 low_so upto true r best low le = low refl

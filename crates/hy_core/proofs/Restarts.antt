@@ -1,13 +1,14 @@
 -- What is kept after a stop has struck, and all have restarted.
 use Rattle.std.proofs.Common.{◌≡◌, ℕ, zero, suc, ◌+◌, ◌<◌, ◌≤◌, Bool, true, false, List, [], ◌∷◌, ◌++◌, length, map, replicate, take, refl, ap, sym, ◌∙◌, subst, arith, add-one, append_assoc}
-use Rattle.std.proofs.lemmas.List.{append-nil, map-append}
-use Rattle.std.specs.Prelude.{All, Option, Some, None, is_some, option_map, option_and_then, option_to_list, unwrap_or, filter_map, ◌&&◌, ◌==◌, not, if◌then◌else◌}
+use Rattle.std.proofs.lemmas.List.{append-nil, map-append, length-map}
+use Rattle.std.specs.Prelude.{Option, Some, None, is_some, option_map, option_and_then, option_to_list, unwrap_or, filter_map, ◌&&◌, ◌==◌, not, if◌then◌else◌}
 use Rattle.std.specs.Option.{option_map_or}
 use Rattle.std.specs.List.{AllByRecursion, enumerate_from}
 use Rattle.hy_base.specs.declared.record.EntryKind.{EntryKind}
 use Rattle.hy_base.specs.declared.record.EntryKind.TheVariants.{Filler}
 use Rattle.hy_base.specs.declared.workload.Event.TheVariants.{Append, Pad}
 use Rattle.hy_base.proofs.NthLemmas.{nth_map, nth_within}
+use Rattle.hy_base.proofs.ListLemmas.{all_push, all_append}
 use Rattle.hy_formats.specs.EntryFormat.{spelling}
 use Rattle.hy_memlog.specs.Pages.{Pages, with_body}
 use Rattle.hy_base.specs.declared.workload.Client.{Client}
@@ -18,7 +19,7 @@ use Rattle.hy_base.specs.declared.workload.Phase.TheVariants.{Idle, Begun}
 use Rattle.hy_base.specs.Shape.{whole_groups}
 use Rattle.hy_base.specs.Log.{IsLawful}
 use Rattle.hy_base.specs.Lists.{nth, change_nth}
-use Rattle.hy_base.specs.Script.{Workload, IsScript, IsClient}
+use Rattle.hy_base.specs.Script.{Workload, IsScript}
 use Rattle.hy_rolling.specs.Rolling.{Roll, rolled_upto}
 use Rattle.hy_rules.specs.Moves.{Setting, State, appended, is_kept, surviving, missing, after, is_begun, abandoned, at_next_program, restarted}
 use Rattle.hy_rules.specs.Runs.{Ended, ByStop, ByEntryAt, added, own_entry, ended, ended_by_append, setting_of, snap_of, begun_snap, lost_by_stop}
@@ -28,10 +29,12 @@ use Rattle.hy_core.specs.declared.parts.EndedProgram.{EndedProgram}
 use Rattle.hy_roller.specs.declared.ended.ProgramEnd.TheVariants.{EntryAt}
 use Rattle.hy_core.specs.Parts.{Holding, ClientStateFits, IsHolding, IsOnDevice, BegunClientState, StepsTo, leaving, told_in_course, IsClientState, IsStepAnswered, AreClientStates, AreRestarted, abandoned_client_state, abandoned_told, all_abandoned, departed, kept_by, pages_with, state_in_course, done_of, ended_in_course}
 use Rattle.hy_core.specs.Replies.{HasFewPrograms}
-use Rattle.hy_core.proofs.Leaving.{left_client_state, all_push, still_whole, begun_of, told_is, done_is, ended_is, sessions_are}
+use Rattle.hy_core.proofs.Leaving.{left_client_state, still_whole, begun_of, told_is, done_is, ended_is, sessions_are}
 use Rattle.hy_core.proofs.ClientStateLemmas.{client_state_changes}
 use Rattle.hy_core.proofs.Begun.{IsBegun}
 use Rattle.hy_core.proofs.LogGrowth.{client_states_grow, told_grow, stored_after}
+use Rattle.hy_core.proofs.TailRule.{as_many}
+use Rattle.hy_core.proofs.Telling.{few_at}
 
 -- ---- the client_states
 
@@ -60,10 +63,6 @@ abandoned_client_states script log number (c ∷ cs) [] are = are
 abandoned_client_states script log number (c ∷ cs) (x ∷ xs) are = (abandoned_is script log number c x x.session.phase refl are.0, abandoned_client_states script log (number + 1) cs xs are.1)
 
 -- ---- what is told
-
-all_append : {X : Type 0} (P : X → Type 0) (xs ys : List X) → AllByRecursion P xs → AllByRecursion P ys → AllByRecursion P (xs ++ ys)
-all_append P [] ys all more = more
-all_append P (x ∷ xs) ys all more = (all.0, all_append P xs ys all.1 more)
 
 told_one : (script : Workload) (log : List EntryKind) (number : ℕ) (c : Client) (x : ClientState) (phase : Phase) → x.session.phase ≡ phase → IsClientState script log number c x → AllByRecursion (IsStepAnswered script log) (abandoned_told number x)
 told_one script log number c x Idle phase is = rw phase tt
@@ -120,10 +119,6 @@ constant : {X : Type 0} (n : ℕ) (xs : List X) → map (λ x. n) xs ≡ replica
 constant n [] = refl
 constant n (x ∷ xs) = ap (λ l. n ∷ l) (constant n xs)
 
-length-map : {X Y : Type 0} (f : X → Y) (xs : List X) → length (map f xs) ≡ length xs
-length-map f [] = refl
-length-map f (x ∷ xs) = ap suc (length-map f xs)
-
 -- ---- all of it
 
 -- the parts after a stop in which these entries were kept
@@ -150,7 +145,7 @@ pub restarted_is : (script : Workload) (h : Holding) (kept : List EntryKind) (pa
     → state_in_course (restarting h kept pages rs) ≡ restarted (setting_of script) (record (state_in_course h) { log = h.log ++ kept })
 restarted_is script h kept pages rs is boards =
     let end : ℕ = whole_groups script.shape (length (h.log ++ kept)) in
-    let count : length (state_in_course h).boards ≡ script.servers = length-map rolled_upto h.rollers ∙ is.servers in
+    let count : length (state_in_course h).boards ≡ script.servers = length-map h.rollers rolled_upto ∙ is.servers in
     (λ i. record { log = h.log ++ kept; boards = (boards.at ∙ (ap (λ n. replicate n end) (sym count) ∙ sym (constant end (state_in_course h).boards))) i; sessions = abandoned_sessions h.client_states i; armed = None })
 
 -- a pad in which a stop strikes
@@ -271,7 +266,7 @@ append_kept script h client pos snap x run e stop rs script_is is armed keeps at
     let same_log : log ++ [] ≡ log = append-nil log in
     let restart : AreRestarted script log rs = subst (λ (l : List EntryKind). AreRestarted script (h.log ++ l) rs) one boards in
     let end : ℕ = whole_groups script.shape (length log) in
-    let count : length s.boards ≡ script.servers = length-map rolled_upto h.rollers ∙ is.servers in
+    let count : length s.boards ≡ script.servers = length-map h.rollers rolled_upto ∙ is.servers in
     let stored : IsOnDevice script log (pages_with (Some stop) 1 e h.pages) = subst (λ (l : List EntryKind). IsOnDevice script (h.log ++ l) (pages_with (Some stop) 1 e h.pages)) one (stored_after script h.log h.pages (Some stop) 1 e is.stored) in
     let holding : IsHolding script (record { log = log; pages = pages_with (Some stop) 1 e h.pages; rollers = rs; client_states = map abandoned_client_state xs; told = (h.told ++ t ∷ []) ++ all_abandoned 1 xs; armed = None }) = record {
       stored = stored;
@@ -316,18 +311,8 @@ client_states_fit_by script log number [] (x ∷ xs) are few = absurd are
 client_states_fit_by script log number (c ∷ cs) [] are few = tt
 client_states_fit_by script log number (c ∷ cs) (x ∷ xs) are few = (omega (arith, are.0.most, few.0), client_states_fit_by script log (number + 1) cs xs are.1 few.1)
 
-few_by : (servers : ℕ) (cs : List Client) → All (IsClient servers) cs → AllByRecursion HasFewPrograms cs
-few_by servers [] all = tt
-few_by servers (c ∷ cs) all = ((all 0 c (omega arith)).count, few_by servers cs (λ k d below. all (suc k) d (omega (arith, below))))
-
 pub client_states_fit : (script : Workload) (h : Holding) → IsScript script → IsHolding script h → AllByRecursion ClientStateFits h.client_states
-client_states_fit script h script_is is = client_states_fit_by script h.log 1 script.clients h.client_states is.client_states (few_by script.servers script.clients script_is.clients)
-
-client_states_many : (script : Workload) (log : List EntryKind) (number : ℕ) (cs : List Client) (xs : List ClientState) → AreClientStates script log number cs xs → length xs ≡ length cs
-client_states_many script log number [] [] are = refl
-client_states_many script log number [] (x ∷ xs) are = absurd are
-client_states_many script log number (c ∷ cs) [] are = absurd are
-client_states_many script log number (c ∷ cs) (x ∷ xs) are = ap suc (client_states_many script log (number + 1) cs xs are.1)
+client_states_fit script h script_is is = client_states_fit_by script h.log 1 script.clients h.client_states is.client_states (few_at script.servers script.clients script_is.clients)
 
 pub client_states_few : (script : Workload) (h : Holding) → length script.clients ≤ 128 → IsHolding script h → length h.client_states ≤ 128
-client_states_few script h few is = omega (arith, few, client_states_many script h.log 1 script.clients h.client_states is.client_states)
+client_states_few script h few is = omega (arith, few, as_many script h.log 1 script.clients h.client_states is.client_states)

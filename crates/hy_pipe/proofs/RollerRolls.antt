@@ -3,11 +3,12 @@ use Rattle.std.proofs.Common.{◌≡◌, ℕ, ◌+◌, ◌*◌, ◌%◌, ◌≤�
 use Rattle.std.specs.Prelude.{◌/◌}
 use Rattle.hy_base.specs.declared.layout.Shape.{Shape}
 use Rattle.hy_base.specs.declared.record.EntryKind.{EntryKind}
+use Rattle.hy_base.proofs.GroupLemmas.{whole_count}
 use Rattle.hy_rolling.specs.Rolling.{Rolled, Roll, IsRolled, roll_groups, roll_on, rolled_upto, commits_on}
 use Rattle.hy_rolling.proofs.Cuts.{rolled_groups, rolls_keep}
 use Rattle.hy_roller.specs.Telling.{after_verdicts, rolled_to}
 use Rattle.hy_roller.specs.RollerLaws.{IsRoller}
-use Rattle.hy_roller.proofs.Rolls.{bare, bare_rolls, all_counts, verdicts_keep, whole_count}
+use Rattle.hy_roller.proofs.Rolls.{bare, bare_rolls, all_counts, verdicts_keep}
 
 -- it begins with no verdicts
 pub starts : (r : Roll) (shape : Shape) (start : Rolled) → IsRoller r → shape ≡ r.shape → start ≡ bare r.rolled → IsRolled shape start

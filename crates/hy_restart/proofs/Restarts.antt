@@ -1,32 +1,30 @@
 -- A roller that goes on from a point.
-use Rattle.std.proofs.Common.{◌≡◌, ℕ, zero, suc, ◌+◌, ◌-◌, ◌*◌, ◌/◌, ◌%◌, ◌≤◌, Bool, List, [], ◌∷◌, ◌++◌, length, take, drop, Option, Some, None, refl, sym, ap, subst, ◌∙◌, arith, length-drop, take-append-drop}
+use Rattle.std.proofs.Common.{◌≡◌, ℕ, ◌+◌, ◌-◌, ◌*◌, ◌/◌, ◌%◌, ◌≤◌, Bool, List, [], ◌++◌, length, take, drop, Option, Some, None, refl, sym, ap, subst, ◌∙◌, arith, length-drop, take-append-drop}
 use Rattle.std.specs.Prelude.{IfSome}
 use Rattle.std.proofs.lemmas.List.{length-take-le, drop-take, take-take}
-use Rattle.std.proofs.Math.Nat.{mul-le-mul_left, mul_comm, div-add-mod, mul-mod_right, mul-sub, le-div_iff_mul-le}
+use Rattle.std.proofs.Math.Nat.{mul-mod_right, mul-div_cancel_left}
 use Rattle.hy_base.specs.declared.layout.Shape.{Shape}
 use Rattle.hy_base.specs.declared.record.EntryKind.{EntryKind}
 use Rattle.hy_base.specs.declared.record.Row.{Row}
 use Rattle.hy_base.specs.Log.{HaveLawfulSnaps, IsLawful}
 use Rattle.hy_base.specs.Shape.{IsGoodShape, base_groups, whole_groups}
+use Rattle.hy_base.proofs.GroupLemmas.{whole_ends, whole_gap, whole_below, whole_count}
 use Rattle.hy_rules.specs.Validation.{verdicts, rows, rows_after}
-use Rattle.hy_rolling.specs.Rolling.{Roll, Rolled, rolled_upto, new_roll, resumed, roll_group, roll_groups, roll_on, Stands}
+use Rattle.hy_rules.proofs.Growth.{snaps_take, snaps_drop}
+use Rattle.hy_rolling.specs.Rolling.{Roll, rolled_upto, new_roll, resumed, roll_on, Stands}
 use Rattle.hy_rules.specs.History.{commits_past}
 use Rattle.hy_formats.specs.Checkpoint.{Checkpoint, IsCheckpoint, base_behind}
 use Rattle.hy_rules.specs.SavedPoints.{PointStands}
+use Rattle.hy_rolling.proofs.Cuts.{rolled_on}
 use Rattle.hy_roller.specs.RollerLaws.{NewRollStands, ResumedStands, RollStands}
 use Rattle.hy_restart.specs.Resuming.{start_of, starting, whole_front, restarted_roll}
 use Rattle.hy_restart.specs.Restart.{IsRestarted}
-use Rattle.hy_restart.proofs.RollerPoints.{again}
-
--- whole groups up to a position
-count_of : (g n : ℕ) → n % g ≡ 0 → g * (n / g) ≡ n
-count_of g n whole = omega (arith, div-add-mod n g, whole)
 
 -- ---- a roller that is resumed
 
 -- the rows and the verdicts of a log, by whole groups
 rows_of : (s : Shape) (front : List EntryKind) (n : ℕ) → 1 ≤ s.group → rows s front (s.group * n) ≡ rows_after s front n
-rows_of s front n some = ap (λ (k : ℕ). rows_after s front k) (again s.group n some)
+rows_of s front n some = ap (λ (k : ℕ). rows_after s front k) (mul-div_cancel_left n some)
 
 pub point_resumes : ResumedStands → (front : List EntryKind) (c : Checkpoint) → IsGoodShape c.shape → c.position % c.shape.group ≡ 0 → PointStands front c → Stands front (resumed c.shape c.position c.rows (drop c.base front) c.flags)
 point_resumes law front c good whole stands =
@@ -41,51 +39,8 @@ point_resumes law front c good whole stands =
 
 -- ---- rolling on by whole groups
 
-groups_are : (s : Shape) (k : ℕ) (r : Rolled) (es : List EntryKind) → (roll_groups s k r es).groups ≡ r.groups + k
-groups_are s zero r es = omega arith
-groups_are s (suc k) r es = let rest = groups_are s k (roll_group s r (take s.group es)) (drop s.group es) in omega (arith, rest)
-
-rolled_on : (r : Roll) (es : List EntryKind) → length es % r.shape.group ≡ 0 → rolled_upto (roll_on r es) ≡ rolled_upto r + length es
-rolled_on r es whole =
-    let g = r.shape.group in
-    let n : g * (length es / g) + length es % g ≡ length es = omega arith in
-    let k = groups_are r.shape (length es / g) r.rolled es in
-    ap (λ (m : ℕ). g * m) k ∙ (let e : g * (r.rolled.groups + length es / g) ≡ g * r.rolled.groups + length es = omega (arith, n, whole) in e)
-
-snaps_take : (s : Shape) (pos k : ℕ) (es : List EntryKind) → HaveLawfulSnaps s pos es → HaveLawfulSnaps s pos (take k es)
-snaps_take s pos zero es all = tt
-snaps_take s pos (suc k) [] all = tt
-snaps_take s pos (suc k) (e ∷ es) all = (all.0, snaps_take s (pos + 1) k es all.1)
-
-snaps_drop : (s : Shape) (pos k : ℕ) (es : List EntryKind) → HaveLawfulSnaps s pos es → HaveLawfulSnaps s (pos + k) (drop k es)
-snaps_drop s pos zero es all = subst (λ (n : ℕ). HaveLawfulSnaps s n es) (omega arith) all
-snaps_drop s pos (suc k) [] all = tt
-snaps_drop s pos (suc k) (e ∷ es) all = subst (λ (n : ℕ). HaveLawfulSnaps s n (drop k es)) (omega arith) (snaps_drop s (pos + 1) k es all.1)
-
 zero_whole : (g : ℕ) → 0 % g ≡ 0
 zero_whole g = let none : 0 ≡ g * 0 = omega arith in ap (λ n. n % g) none ∙ mul-mod_right g 0
-
-whole_ends : (g n : ℕ) → 1 ≤ g → (n - n % g) % g ≡ 0
-whole_ends g n some = grind arith
-
--- of two ends of groups the part between is whole groups
-gap_whole : (g a b : ℕ) → a % g ≡ 0 → b % g ≡ 0 → (a - b) % g ≡ 0
-gap_whole g a b wa wb =
-    let ea : g * (a / g) + a % g ≡ a = omega arith in
-    let eb : g * (b / g) + b % g ≡ b = omega arith in
-    let d = mul-sub g (a / g) (b / g) in
-    let same : a - b ≡ g * (a / g - b / g) = omega (arith, ea, eb, wa, wb, d) in
-    ap (λ n. n % g) same ∙ mul-mod_right g (a / g - b / g)
-
--- the end of a group in a log is no later than its last end of one
-pub end_within : (g at n : ℕ) → 1 ≤ g → at % g ≡ 0 → at ≤ n → at ≤ n - n % g
-end_within g at n some whole within =
-    let ea : g * (at / g) ≡ at = count_of g at whole in
-    let en : g * (n / g) + n % g ≡ n = div-add-mod n g in
-    let turned : at / g * g ≡ g * (at / g) = mul_comm (at / g) g in
-    let fewer : at / g ≤ n / g = (le-div_iff_mul-le some).1 (omega (arith, turned, ea, within)) in
-    let scaled : g * (at / g) ≤ g * (n / g) = mul-le-mul_left g fewer in
-    omega (arith, ea, en, scaled)
 
 module _ (s : Shape) (entries : List EntryKind) (good : IsGoodShape s) (lawful : IsLawful s entries) (first : ℕ) (at_end : first % s.group ≡ 0) (within : first ≤ length entries) where
   abbrev last : ℕ
@@ -98,13 +53,13 @@ module _ (s : Shape) (entries : List EntryKind) (good : IsGoodShape s) (lawful :
   front_size = length-take-le last entries (omega arith)
 
   pub before_last : first ≤ last
-  before_last = end_within s.group first (length entries) good.group.at_least at_end within
+  before_last = whole_below s.group first (length entries) good.group.at_least at_end within
 
   pub rest_size : length rest ≡ last - first
   rest_size = length-drop first (whole_front s entries) ∙ ap (λ (n : ℕ). n - first) front_size
 
   pub rest_whole : length rest % s.group ≡ 0
-  rest_whole = ap (λ n. n % s.group) rest_size ∙ gap_whole s.group last first (whole_ends s.group (length entries) good.group.at_least) at_end
+  rest_whole = ap (λ n. n % s.group) rest_size ∙ whole_gap s.group last first (whole_ends s.group (length entries) good.group.at_least) at_end
 
   joined : take first entries ++ rest ≡ whole_front s entries
   joined = ap (λ (l : List EntryKind). l ++ rest) (sym (take-take first last entries before_last)) ∙ take-append-drop first (whole_front s entries)
@@ -143,7 +98,7 @@ restart_stands laws s entries (Some c) good lawful valid within =
     let whole : c.position % s.group ≡ 0 = subst (λ (t : Shape). c.position % t.group ≡ 0) shape valid.1.whole in
     let front : List EntryKind = take c.position entries in
     let r : Roll = resumed s c.position c.rows (drop c.base front) c.flags in
-    let at : rolled_upto r ≡ c.position = count_of s.group c.position whole in
+    let at : rolled_upto r ≡ c.position = (sym (whole_count s.group c.position whole)) in
     record {
       shape_is = refl;
       from_is = refl;
@@ -168,7 +123,7 @@ resumed_is c entries s position rows part flags e1 e2 e3 e4 e5 i = resumed (e1 i
 
 pub start_within : (s : Shape) (n : ℕ) (point : Option Checkpoint) → IsGoodShape s → IfSome point (λ c. (c.shape ≡ s) × IsCheckpoint c) → IfSome point (λ c. c.position ≤ n) → start_of point ≤ whole_groups s n
 start_within s n None good valid within = omega arith
-start_within s n (Some c) good valid within = end_within s.group c.position n good.group.at_least (subst (λ (t : Shape). c.position % t.group ≡ 0) valid.0 valid.1.whole) within
+start_within s n (Some c) good valid within = whole_below s.group c.position n good.group.at_least (subst (λ (t : Shape). c.position % t.group ≡ 0) valid.0 valid.1.whole) within
 
 start_ends : (s : Shape) (point : Option Checkpoint) → IfSome point (λ c. (c.shape ≡ s) × IsCheckpoint c) → start_of point % s.group ≡ 0
 start_ends s None valid = zero_whole s.group
@@ -184,7 +139,7 @@ starting_shape s entries (Some c) = refl
 
 starting_at : (s : Shape) (entries : List EntryKind) (point : Option Checkpoint) → IfSome point (λ c. (c.shape ≡ s) × IsCheckpoint c) → rolled_upto (starting s entries point) ≡ start_of point
 starting_at s entries None valid = omega arith
-starting_at s entries (Some c) valid = count_of s.group c.position (subst (λ (t : Shape). c.position % t.group ≡ 0) valid.0 valid.1.whole)
+starting_at s entries (Some c) valid = (sym (whole_count s.group c.position (subst (λ (t : Shape). c.position % t.group ≡ 0) valid.0 valid.1.whole)))
 
 -- what is rolled behind the start, by a roller that stands there
 pub record CanRoll (r : Roll) (rest : List EntryKind) : Type 0 where

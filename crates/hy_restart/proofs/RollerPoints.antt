@@ -1,27 +1,25 @@
 -- The point of a roller.
-use Rattle.std.proofs.Common.{◌≡◌, ℕ, ◌+◌, ◌*◌, ◌/◌, ◌≤◌, Bool, List, [], ◌∷◌, length, take, refl, sym, ap, subst, ◌∙◌, arith}
-use Rattle.std.proofs.Math.Nat.{mul-mod_right}
+use Rattle.std.proofs.Common.{◌≡◌, ℕ, ◌+◌, ◌*◌, ◌/◌, ◌≤◌, Bool, List, [], length, take, refl, sym, ap, subst, ◌∙◌}
+use Rattle.std.proofs.Math.Nat.{mul-mod_right, mul-div_cancel_left}
 use Rattle.hy_base.specs.declared.layout.Shape.{Shape}
 use Rattle.hy_base.specs.declared.record.EntryKind.{EntryKind}
 use Rattle.hy_base.specs.declared.record.Row.{Row}
 use Rattle.hy_base.specs.Shape.{IsGoodShape, IsWithin, base_groups, premeld_base}
 use Rattle.hy_base.specs.Rows.{Each, IsOrdered}
 use Rattle.hy_rules.specs.Validation.{verdicts_after, rows_after}
-use Rattle.hy_rolling.specs.Rolling.{AreWritten, Roll, rolled_upto, next_base, Stands}
+use Rattle.hy_rolling.specs.Rolling.{Roll, rolled_upto, next_base, Stands}
 use Rattle.hy_rules.specs.History.{commits_past}
 use Rattle.hy_formats.specs.Checkpoint.{IsCheckpoint, base_behind, checkpoint_of}
 use Rattle.hy_rules.specs.SavedPoints.{PointStands, IsPointOf}
+use Rattle.hy_rolling.proofs.RollLemmas.{writers_within}
 use Rattle.hy_roller.specs.RollerLaws.{IsRoller}
 use Rattle.hy_points.proofs.Bases.{base_formula}
 use Rattle.hy_restart.specs.Saving.{point_of}
 
-pub again : (g n : ℕ) → 1 ≤ g → g * n / g ≡ n
-again g n some = grind arith
-
 pub roller_point : (front : List EntryKind) (r : Roll) → IsGoodShape r.shape → Stands front r → PointStands front (point_of r)
 roller_point front r good stands =
     let n : ℕ = r.rolled.groups in
-    let count : r.shape.group * n / r.shape.group ≡ n = again r.shape.group n good.group.at_least in
+    let count : r.shape.group * n / r.shape.group ≡ n = mul-div_cancel_left n good.group.at_least in
     record {
       whole = stands.whole;
       base_is = ap (λ (k : ℕ). r.shape.group * base_groups r.shape k) (sym count);
@@ -30,14 +28,10 @@ roller_point front r good stands =
     }
 
 base_there : (r : Roll) → IsGoodShape r.shape → base_behind r.shape (rolled_upto r) ≡ next_base r
-base_there r good = ap (λ (k : ℕ). r.shape.group * base_groups r.shape k) (again r.shape.group r.rolled.groups good.group.at_least)
+base_there r good = ap (λ (k : ℕ). r.shape.group * base_groups r.shape k) (mul-div_cancel_left r.rolled.groups good.group.at_least)
 
 pub base_at : (s : Shape) (at : ℕ) (r : Roll) → IsGoodShape r.shape → s ≡ r.shape → at ≡ rolled_upto r → premeld_base s (at / s.group + 1) ≡ next_base r
 base_at s at r good shape is = base_formula s at ∙ (λ i. base_behind (shape i) (is i)) ∙ base_there r good
-
-writers_within : (high : ℕ) (rows : List Row) → AreWritten rows → Each (λ row. row.writer ≤ high) rows → Each (λ row. IsWithin 1 high row.writer) rows
-writers_within high [] low below = tt
-writers_within high (row ∷ rows) low below = (record { at_least = low.0; at_most = below.0 }, writers_within high rows low.1 below.1)
 
 is_checkpoint : (r : Roll) → IsRoller r → IsOrdered r.rolled.base_tree → IsCheckpoint (checkpoint_of r.shape (rolled_upto r) r.rolled.base_tree r.commits)
 is_checkpoint r is ordered =

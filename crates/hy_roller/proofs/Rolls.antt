@@ -1,9 +1,8 @@
 -- Rolls, group by group.
-use Rattle.std.proofs.Common.{◌≡◌, ℕ, zero, suc, ◌+◌, ◌-◌, ◌*◌, ◌%◌, ◌<◌, ◌≤◌, Bool, List, [], ◌++◌, length, take, drop, map, Option, refl, sym, ap, ◌∙◌, subst, arith, append_assoc, length-append, length-drop}
+use Rattle.std.proofs.Common.{◌≡◌, ℕ, zero, suc, ◌+◌, ◌-◌, ◌*◌, ◌<◌, ◌≤◌, Bool, List, [], ◌++◌, length, take, drop, map, Option, refl, sym, ap, ◌∙◌, subst, arith, append_assoc, length-append, length-drop}
 use Rattle.std.proofs.lemmas.List.{append-nil, length-take-le, drop-append-le, drop-drop, drop-map, map-append, length-map}
 use Rattle.std.proofs.Math.Seq.{drop-append_seam}
-use Rattle.std.proofs.Math.Nat.{mul-suc, div-add-mod}
-use Rattle.std.specs.Prelude.{◌/◌}
+use Rattle.std.proofs.Math.Nat.{mul-suc}
 use Rattle.hy_base.specs.declared.layout.Shape.{Shape}
 use Rattle.hy_base.specs.declared.record.EntryKind.{EntryKind}
 use Rattle.hy_base.specs.declared.record.Verdict.{Verdict}
@@ -136,10 +135,6 @@ module _ (s : Shape) (from : ℕ) (flags : List Bool) (r added : Rolled) (all : 
   further_is =
       (λ j. record { shape = s; from = from; rolled = with_verdicts all added; commits = flags_on j })
       ∙ (λ j. record { shape = s; from = from; rolled = with_verdicts (joins j) added; commits = commits_on s r (with_verdicts (joins j) added) (flags_past s r.groups from flags r.verdicts) })
-
--- whole groups of entries
-pub whole_count : (g n : ℕ) → n % g ≡ 0 → n ≡ g * (n / g)
-whole_count g n whole = let split : g * (n / g) + n % g ≡ n = div-add-mod n g in omega (arith, split, whole)
 
 -- a flag for each position past the base, of the flags and of the verdicts
 pub onward_flags : (s : Shape) (from : ℕ) (flags : List Bool) (r : Rolled) → from + length r.verdicts ≡ s.group * r.groups → length flags ≤ from → from - length flags ≤ s.group * base_groups s r.groups → HasFlags (onward_roll s from flags r)

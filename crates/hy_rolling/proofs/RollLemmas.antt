@@ -18,7 +18,7 @@ use Rattle.hy_rolling.specs.Laws.{SnapsUpTo, NewRollerStands, RollExtends, Stand
 use Rattle.hy_rolling.proofs.Mates.{staged_are_standings}
 use Rattle.hy_rolling.proofs.Fates.{fate_known, fated_rows}
 use Rattle.hy_rolling.proofs.Windows.{OpensWindow, StaysInWindow, next_window, opened_base, stayed_base, stayed_kept, base_low, kept_low}
-use Rattle.hy_rules.proofs.Growth.{history_rise, history_next, up_to_earlier, growth_keeps_rows, lawful_drop}
+use Rattle.hy_rules.proofs.Growth.{history_rise, history_next, up_to_earlier, growth_keeps_rows, snaps_drop}
 use Rattle.hy_rolling.proofs.GroupSnaps.{group_snaps}
 use Rattle.hy_rules.proofs.Serial.{history_is_before}
 
@@ -157,7 +157,7 @@ roll_extends s front es (suc k) r good snaps size st =
     let own : SnapsUpTo (g * r.groups) part = group_snaps s r.groups es (subst (λ p. HaveLawfulSnaps s p es) st.whole snaps) in
     let one : HasRolled s (front ++ part) (roll_group s r part) = one_extends s front part r good own part_length st in
     let place : length front + g ≡ length (front ++ part) = omega (arith, length-append front part, part_length) in
-    let later : HaveLawfulSnaps s (length (front ++ part)) rest = subst (λ p. HaveLawfulSnaps s p rest) place (lawful_drop s (length front) g es snaps) in
+    let later : HaveLawfulSnaps s (length (front ++ part)) rest = subst (λ p. HaveLawfulSnaps s p rest) place (snaps_drop s (length front) g es snaps) in
     subst (λ log. HasRolled s log (roll_groups s k (roll_group s r part) rest)) (append_assoc front part rest ∙ ap (λ l. front ++ l) (take-append-drop g es))
     (roll_extends s (front ++ part) rest k (roll_group s r part) good later (omega (arith, length-drop g es, size, more)) one)
 

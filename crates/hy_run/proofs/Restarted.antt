@@ -1,6 +1,6 @@
 -- What a restart leaves for the run that begins with it.
-use Rattle.std.proofs.Common.{◌≡◌, ◌≢◌, ℕ, ◌≤◌, Bool, true, false, IsTrue, List, length, refl, sym, ◌∙◌, ap, subst, inl, inr, ⊎_elim, arith}
-use Rattle.std.specs.Prelude.{◌⊎◌, ◌||◌, Option, Some, Result, Ok, Err, IfErr}
+use Rattle.std.proofs.Common.{◌≡◌, ◌≢◌, ℕ, ◌≤◌, Bool, false, IsTrue, List, length, refl, sym, ◌∙◌, ap, subst, inl, inr, ⊎_elim, arith}
+use Rattle.std.specs.Prelude.{◌⊎◌, Option, Some, Result, Ok, Err, IfErr}
 use Rattle.hy_base.specs.declared.layout.Shape.{Shape}
 use Rattle.hy_base.specs.declared.record.EntryKind.{EntryKind}
 use Rattle.hy_base.specs.Faults.{Rose}
@@ -93,10 +93,6 @@ module _ {D : Type 0} (options : RunOptions) (content : D → Content) (moment :
   -- where the run is refused
   pub refused_then : (may : Bool) (saving : Type 0) → (options.from_point ≡ false → mid ≡ old) → LeavesPoint options content moment left_since faults_of old mid may saving
   refused_then may saving unasked = record { later = reads.later; unused = λ start save. unasked start; unsaved = λ none. reads; left = inl reads }
-
-pub from_true : (from save : Bool) → from ≡ true → IsTrue (from || save)
-from_true true save is = refl
-from_true false save is = absurd (cc is)
 
 -- ---- why a log was not restarted
 

@@ -1,20 +1,20 @@
 use Rattle.std.proofs.Common.{List, ℕ, Some, refl, inl, ap, ◌∙◌}
 use Rattle.std.specs.Prelude.{option_map}
+use Rattle.hy_base.proofs.ResultLemmas.{any_err}
 use Rattle.hy_formats.specs.EntryFormat.{spelling}
 use Rattle.hy_memlog.specs.Pages.{with_body}
 use Rattle.hy_core.specs.Parts.{Holding, log_held}
-use Rattle.hy_core.proofs.Ending.{on_err}
 use Rattle.hy_core.proofs.Stopping.{kept_or_broken}
 use Rattle.hy_core.proofs.restarting.strike.Goals as goal
 
 pub returns-in_err-stop-clause-err : goal.returns-in_err-stop-clause-err
-returns-in_err-stop-clause-err g c = on_err c.from_residual-in_err-stop.result (kept_or_broken (log_held c.args.core.now) c.stop.new.self c.in_err-stop.ensures.err)
+returns-in_err-stop-clause-err g c = any_err _ c.from_residual-in_err-stop.result (kept_or_broken (log_held c.args.core.now) c.stop.new.self c.in_err-stop.ensures.err)
 
 pub returns-in_err-body-clause-err : goal.returns-in_err-body-clause-err
-returns-in_err-body-clause-err g c = on_err c.from_residual.result (inl refl)
+returns-in_err-body-clause-err g c = any_err _ c.from_residual.result (inl refl)
 
 pub returns-in_err-rollers-clause-err : goal.returns-in_err-rollers-clause-err
-returns-in_err-rollers-clause-err g c = on_err c.from_residual-in_err-rollers.result (inl refl)
+returns-in_err-rollers-clause-err g c = any_err _ c.from_residual-in_err-rollers.result (inl refl)
 
 pub returns-clause-ok : goal.returns-clause-ok
 returns-clause-ok g c =

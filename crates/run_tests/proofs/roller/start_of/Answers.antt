@@ -1,26 +1,20 @@
-use Rattle.std.proofs.Common.{◌≡◌, ◌*◌, ◌/◌, ◌%◌, ◌≤◌, ℕ, List, [], ◌∷◌, sym, ap, subst, ◌∙◌, arith}
-use Rattle.std.proofs.Math.Nat.{mul-mod_right}
+use Rattle.std.proofs.Common.{◌≡◌, ◌*◌, ◌%◌, ℕ, List, [], sym, ap, subst, ◌∙◌}
+use Rattle.std.proofs.Math.Nat.{mul-mod_right, mul-div_cancel_left}
 use Rattle.hy_base.specs.declared.layout.Shape.{Shape}
 use Rattle.hy_base.specs.declared.record.Row.{Row}
 use Rattle.hy_base.specs.Shape.{IsWithin, base_groups}
 use Rattle.hy_base.specs.Rows.{Each}
-use Rattle.hy_rolling.specs.Rolling.{AreWritten, Roll, rolled_upto, next_base}
+use Rattle.hy_rolling.specs.Rolling.{Roll, rolled_upto, next_base}
 use Rattle.hy_formats.specs.Checkpoint.{base_behind}
+use Rattle.hy_rolling.proofs.RollLemmas.{writers_within}
 use Rattle.hy_roller.specs.RollerLaws.{IsRoller}
 use Rattle.run_tests.proofs.roller.start_of.Goals as goal
 
-again : (g n : ℕ) → 1 ≤ g → g * n / g ≡ n
-again g n some = grind arith
-
 base_there : (r : Roll) → IsRoller r → next_base r ≡ base_behind r.shape (rolled_upto r)
-base_there r is = ap (λ (k : ℕ). r.shape.group * base_groups r.shape k) (sym (again r.shape.group r.rolled.groups is.good.group.at_least))
-
-within : (high : ℕ) (rows : List Row) → AreWritten rows → Each (λ row. row.writer ≤ high) rows → Each (λ row. IsWithin 1 high row.writer) rows
-within high [] low below = tt
-within high (row ∷ rows) low below = (record { at_least = low.0; at_most = below.0 }, within high rows low.1 below.1)
+base_there r is = ap (λ (k : ℕ). r.shape.group * base_groups r.shape k) (sym (mul-div_cancel_left r.rolled.groups is.good.group.at_least))
 
 base_rows : (r : Roll) → IsRoller r → Each (λ row. IsWithin 1 (base_behind r.shape (rolled_upto r)) row.writer) r.rolled.base_tree
-base_rows r is = subst (λ (high : ℕ). Each (λ row. IsWithin 1 high row.writer) r.rolled.base_tree) (base_there r is) (within (next_base r) r.rolled.base_tree is.is_rolled.base_written is.is_rolled.base_later.old)
+base_rows r is = subst (λ (high : ℕ). Each (λ row. IsWithin 1 high row.writer) r.rolled.base_tree) (base_there r is) (writers_within (next_base r) r.rolled.base_tree is.is_rolled.base_written is.is_rolled.base_later.old)
 
 start : (s : Shape) (r : Roll) (rows : List Row) (at : ℕ) → IsRoller r → r.shape ≡ s → rows ≡ r.rolled.base_tree → at ≡ rolled_upto r
     → (at % s.group ≡ 0) × Each (λ row. IsWithin 1 (base_behind s at) row.writer) rows
