@@ -1,6 +1,5 @@
 -- A side may cross threads where its device may, and threads may share the hub.
 use mathlib.Core.Bool.{true}
-use mathlib.Core.List.{[]}
 use denote.RattleType.{RattleType}
 use denote.Param.Send.{IsSend, sendable, arg_sync, param_sync}
 use denote.Param.SendFields.{declared_send}
