@@ -21,7 +21,7 @@ use Rattle.hy_rules.specs.Runs.{setting_of as script_setting}
 use Rattle.hy_hub.specs.Origin.{Origin}
 use Rattle.hy_hub.specs.declared.occurrence.Occurrence.{Occurrence}
 use Rattle.hy_hub.specs.declared.occurrence.Occurrence.TheVariants.{Opened}
-use Rattle.hy_hub.specs.Trace.{setting_in, state_after}
+use Rattle.hy_hub.specs.Trace.{setting_in, state_after, faults_at_opening}
 use Rattle.hy_hub.specs.Hub.{IsBoard, IsHubHistory, IsTornLog}
 use Rattle.hy_hub.specs.Close.{IsClosed}
 use Rattle.hy_hub.specs.Initial.{IsInitial}
@@ -29,7 +29,7 @@ use Rattle.hy_hist.proofs.Lists.{prefix_self}
 use Rattle.hy_base.specs.declared.workload.Home.{Home}
 use Rattle.hy_hub.proofs.Told.{told_setting}
 use Rattle.hy_hub.proofs.Passing.{log_more}
-use Rattle.hy_clients.specs.Passing.{OpensStanding, opened_log, opened_faults}
+use Rattle.hy_clients.specs.Passing.{OpensStanding, opened_log}
 use Rattle.hy_clients.specs.Finished.{IsCutShort}
 use Rattle.hy_clients.proofs.Openings.{opened_same}
 
@@ -99,11 +99,11 @@ module _ {D : Type 0} {tells : Bool} {content : D → Content} {faults : ℕ} {l
   pub cut_short : (shape : Shape) → (setting_in list).shape ≡ shape → IsCutShort tells content shape (opened_log list) log
   cut_short shape same = by_stop shape same tells refl log.stopped refl
 
-  pub no_fewer : opened_faults list ≤ faults
-  no_fewer = let e : opened_faults list ≡ closed.told.opened.faults = ap opened_faults closed.told.told.begins in let n = closed.stored.no_less in omega (arith, e, n)
+  pub no_fewer : faults_at_opening list ≤ faults
+  no_fewer = let e : faults_at_opening list ≡ closed.told.opened.faults = ap faults_at_opening closed.told.told.begins in let n = closed.stored.no_less in omega (arith, e, n)
 
-  pub rose : log.stopped ≢ None → Rose (opened_faults list) faults
-  rose stopped = subst (λ (n : ℕ). Rose n faults) (sym (ap opened_faults closed.told.told.begins)) (closed.stored.cause stopped)
+  pub rose : log.stopped ≢ None → Rose (faults_at_opening list) faults
+  rose stopped = subst (λ (n : ℕ). Rose n faults) (sym (ap faults_at_opening closed.told.told.begins)) (closed.stored.cause stopped)
 
 -- the log of a hub that was closed, by what its first pass had seen
 pub run_cut : {D : Type 0} {tells : Bool} {content : D → Content} {faults : ℕ} {list : List Occurrence} {log : LogView D} {entries : List EntryKind} {rollers : List Roll} (closed : IsClosed tells content faults list log entries rollers) (script : Workload) (first : List Occurrence)

@@ -22,14 +22,6 @@ opened_log (Halted at risen ∷ occurrences) = []
 opened_log (Lifted batch ∷ occurrences) = []
 opened_log (Landed ∷ occurrences) = []
 
-abbrev pub opened_faults : List Occurrence → ℕ
-opened_faults [] = 0
-opened_faults (Opened o ∷ occurrences) = o.faults
-opened_faults (Happened event added ∷ occurrences) = 0
-opened_faults (Halted at risen ∷ occurrences) = 0
-opened_faults (Lifted batch ∷ occurrences) = 0
-opened_faults (Landed ∷ occurrences) = 0
-
 abbrev pub opened_start : List Occurrence → Roll
 opened_start [] = new_roll (setting_in []).shape
 opened_start (Opened o ∷ occurrences) = o.start

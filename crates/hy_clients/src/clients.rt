@@ -8,8 +8,8 @@ ghost use Rattle.hy_rules.specs.Runs.{setting_of as script_setting};
 ghost use Rattle.hy_hub.specs.Calls.{events_in_list};
 ghost use Rattle.hy_hub.specs.Close.{IsClosed};
 ghost use Rattle.hy_hub.specs.Initial.{IsInitial};
-ghost use Rattle.hy_hub.specs.Trace.{setting_in, state_after};
-ghost use Rattle.hy_clients.specs.Passing.{IsRunPass, OpensInLog, opened_log, opened_start, opened_faults};
+ghost use Rattle.hy_hub.specs.Trace.{setting_in, state_after, faults_at_opening};
+ghost use Rattle.hy_clients.specs.Passing.{IsRunPass, OpensInLog, opened_log, opened_start};
 ghost use Rattle.hy_clients.specs.Served.{AllServed};
 ghost use Rattle.hy_clients.specs.Finished.{IsCutShort, IsFinished};
 
@@ -160,11 +160,11 @@ fn run_on<D: Disk + Send, R: Threads + Wait + Sync, G: Gate + Sync>(
     requires threads { IsThreadCount threads }
     ensures run { IfOk result (λ run. IsFinished D.tells script.now (opened_log pass.seen) (opened_start pass.seen) run.events run.replies run.boards run.log) }
     ensures cut { IfErr result (λ broken. IsCutShort D.tells D.content script.now.shape (opened_log pass.seen) broken.log) }
-    ensures cause { IfErr result (λ broken. broken.cause ≡ Cause.Device → Rose (opened_faults pass.seen) (D.faults_of broken.log.disk)) }
+    ensures cause { IfErr result (λ broken. broken.cause ≡ Cause.Device → Rose (faults_at_opening pass.seen) (D.faults_of broken.log.disk)) }
     ensures memory { IfErr result (λ broken. broken.cause ≡ Cause.Memory → broken.log.stopped ≡ None) }
-    ensures stopped { IfErr result (λ broken. broken.log.stopped ≢ None → Rose (opened_faults pass.seen) (D.faults_of broken.log.disk)) }
-    ensures later { IfOk result (λ run. opened_faults pass.seen ≤ D.faults_of run.log.disk) }
-    ensures later_cut { IfErr result (λ broken. opened_faults pass.seen ≤ D.faults_of broken.log.disk) }
+    ensures stopped { IfErr result (λ broken. broken.log.stopped ≢ None → Rose (faults_at_opening pass.seen) (D.faults_of broken.log.disk)) }
+    ensures later { IfOk result (λ run. faults_at_opening pass.seen ≤ D.faults_of run.log.disk) }
+    ensures later_cut { IfErr result (λ broken. faults_at_opening pass.seen ≤ D.faults_of broken.log.disk) }
 {
     let told = serve_to_end(rt, alloc, script, &hub, &mut pass, threads, gate);
     let events = hub.trace(rt, &mut pass);

@@ -12,7 +12,7 @@ use Rattle.hy_base.specs.declared.workload.Phase.TheVariants.{Idle, Begun}
 use Rattle.hy_base.specs.declared.workload.Event.{Event}
 use Rattle.hy_base.specs.Lists.{nth, change_nth}
 use Rattle.hy_base.specs.Log.{IsLawful}
-use Rattle.hy_base.specs.Script.{Workload}
+use Rattle.hy_base.specs.Script.{Workload, home_of}
 use Rattle.hy_rules.specs.Validation.{live}
 use Rattle.hy_rules.specs.Exec.{Effects, exec, intention}
 use Rattle.hy_rolling.specs.Rolling.{Roll, rolled_upto, Stands}
@@ -189,9 +189,6 @@ appending_in h client pos snap x run e = record h {
 
 abbrev pub Appends : Holding → Holding → ℕ → ℕ → Type 0
 Appends old new client pos = (snap : ℕ) (x : ClientState) (run : Running) (e : EntryKind) → BegunClientState old client snap x run → run.entry ≡ Some e → new ≡ appending_in old client pos snap x run e
-
-abbrev pub home_of : Client → Home
-home_of c = record { server = c.server; programs = length c.programs }
 
 -- the first of these clients, the first of which has this number, that is begun or has a program left
 abbrev pub first_unfinished : ℕ → List Client → List ClientState → Option (ℕ × (Home × Session))

@@ -31,14 +31,14 @@ each_of_eight P a b c d e f g h (suc (suc (suc (suc (suc (suc (suc zero))))))) l
 each_of_eight P a b c d e f g h (suc (suc (suc (suc (suc (suc (suc (suc zero)))))))) least most = h
 each_of_eight P a b c d e f g h (suc (suc (suc (suc (suc (suc (suc (suc (suc n))))))))) least most = absurd (omega (arith, most))
 
-abbrev pub home_of : ℕ → ℕ → ℕ → Home
-home_of seed size client = record { server = home client; programs = length (programs_of seed size client) }
+abbrev pub load_home : ℕ → ℕ → ℕ → Home
+load_home seed size client = record { server = home client; programs = length (programs_of seed size client) }
 
 pub program_total : (seed size client : ℕ) → length (programs_of seed size client) ≡ program_count size client
 program_total seed size client = length-map-range_with_len (λ turn. program_numbered seed (8 * turn + (client - 1))) 0 (program_count size client)
 
-pub home_is : (seed size client : ℕ) → 1 ≤ client → client ≤ 8 → nth (setting_of (script_of seed size)).homes client ≡ Some (home_of seed size client)
-home_is seed size client least most = each_of_eight (λ n. nth (setting_of (script_of seed size)).homes n ≡ Some (home_of seed size n)) refl refl refl refl refl refl refl refl client least most
+pub home_is : (seed size client : ℕ) → 1 ≤ client → client ≤ 8 → nth (setting_of (script_of seed size)).homes client ≡ Some (load_home seed size client)
+home_is seed size client least most = each_of_eight (λ n. nth (setting_of (script_of seed size)).homes n ≡ Some (load_home seed size n)) refl refl refl refl refl refl refl refl client least most
 
 client_is : (seed size client : ℕ) → 1 ≤ client → client ≤ 8 → nth (script_of seed size).clients client ≡ Some (client_of seed size client)
 client_is seed size client least most = each_of_eight (λ n. nth (script_of seed size).clients n ≡ Some (client_of seed size n)) refl refl refl refl refl refl refl refl client least most
@@ -57,9 +57,9 @@ calm_state log boards sessions = record { log = log; boards = boards; sessions =
 
 -- a client's test
 pub passes : (seed size client : ℕ) (log : List EntryKind) (boards : List ℕ) (sessions : List Session) (x : Session) (test : Home → Session → Bool) → 1 ≤ client → client ≤ 8
-    → nth sessions client ≡ Some x → client_passes (setting_of (script_of seed size)) (calm_state log boards sessions) client test ≡ test (home_of seed size client) x
+    → nth sessions client ≡ Some x → client_passes (setting_of (script_of seed size)) (calm_state log boards sessions) client test ≡ test (load_home seed size client) x
 passes seed size client log boards sessions x test least most is =
-    ap (λ o. option_map_or (λ h. option_map_or (test h) (nth sessions client) false) o false) (home_is seed size client least most) ∙ ap (λ o. option_map_or (test (home_of seed size client)) o false) is
+    ap (λ o. option_map_or (λ h. option_map_or (test h) (nth sessions client) false) o false) (home_is seed size client least most) ∙ ap (λ o. option_map_or (test (load_home seed size client)) o false) is
 
 -- the board of a server before a round
 abbrev pub board_before : List Bool → ℕ → ℕ → ℕ

@@ -8,7 +8,7 @@ use Rattle.hy_base.specs.Shape.{whole_groups}
 use Rattle.hy_formats.specs.EntryFormat.{entries_past, spelling}
 use Rattle.hy_rolling.specs.Rolling.{Roll, rolled_upto, Stands}
 use Rattle.hy_log.specs.View.{LogView}
-use Rattle.hy_check.specs.Listing.{IsSoundEntry}
+use Rattle.hy_base.specs.Entry.{IsSoundEntry}
 use Rattle.hy_formats.specs.Checkpoint.{Checkpoint}
 use Rattle.hy_formats.specs.declared.refusal.RestartError.{RestartError}
 use Rattle.hy_formats.specs.declared.refusal.RestartError.TheVariants as restarting
