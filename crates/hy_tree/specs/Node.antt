@@ -12,7 +12,7 @@ rows_of Empty = []
 rows_of (Leaf writer row) = arc_value row ∷ []
 rows_of (Fork top branch) = (arc_value branch).left ++ (arc_value branch).right
 
--- the sides are a fork, the stored writer is the greatest, and the count is that of the rows or the most that it can be
+-- the sides are a fork with fewer than 2^64 rows, the handle's writer is the greatest, and the count stops at 2^32 - 1
 pub record IsBranch (greatest : ℕ) (b : Branch) : Type 0 where
   pub fork : IsFork b.bit b.prefix b.left b.right
   pub rows : AreRows (b.left ++ b.right)
