@@ -210,6 +210,7 @@ impl Tree {
                 if branch.count < u32::MAX {
                     u64::from(branch.count)
                 } else {
+                    // Only the few parts with so many rows are walked.
                     branch.left.row_count() + branch.right.row_count()
                 }
             }
