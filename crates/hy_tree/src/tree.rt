@@ -1,5 +1,5 @@
 //! The tree, seen as its rows in key order.
-ghost use Rattle.std.specs.Prelude.{◌≡◌, ℕ, ◌+◌, ◌/◌, ◌^◌, ◌<◌, [], ◌∷◌, ◌++◌, length, IfOk, IfSome, MatchOption};
+ghost use Rattle.std.specs.Prelude.{◌≡◌, ℕ, ◌+◌, ◌-◌, ◌/◌, ◌^◌, ◌<◌, min, [], ◌∷◌, ◌++◌, length, IfOk, IfSome, MatchOption};
 ghost use Rattle.std.specs.Arc.{arc_value};
 ghost use Rattle.hy_base.specs.Value.{IsValue};
 ghost use Rattle.hy_base.specs.Lists.{put};
@@ -21,25 +21,29 @@ pub struct Tree {
     node: Node,
 }
 
+// The greatest writer stands beside the pointer, so that it is known without a look at what lies behind.
 #[cycle(tree)]
 #[derive(Drop)]
 enum Node {
     Empty,
-    Leaf(Arc<Row>),
-    Fork(Arc<Branch>),
+    Leaf { writer: Pos, row: Arc<Row> },
+    Fork { top: Pos, branch: Arc<Branch> },
 }
 
-// The two halves of a block of keys: those with and without the bit, all alike above it.
+// The two halves of a block of keys: those with and without the bit, all alike above it. `count` is how many rows there
+// are, or 2^32 - 1 where there are at least so many. Fields lie in the order of the source: in this one they take 48
+// bytes, 56 with the count of owners, for which the allocator gives 64 and not 80.
 #[cycle(tree)]
 #[derive(Drop)]
 struct Branch {
     bit: u32,
+    count: u32,
     prefix: Key,
-    top: Pos,
-    count: u64,
     left: Tree,
     right: Tree,
 }
+
+const _: () = prove!(size_of::<Branch>() == 48);
 
 impl Model for Tree {
     ghost use Rattle.hy_base.specs.declared.record.Row.{Row};
@@ -78,6 +82,13 @@ fn see_value(value: &Option<Value>)
     }
 }
 
+// The count that a branch of so many rows keeps.
+fn saturating_count(rows: u64) -> u32
+    ensures { result ≡ min rows (2 ^ 32 - 1) }
+{
+    u32::try_from(rows).unwrap_or(u32::MAX)
+}
+
 impl Tree {
     /// The tree without rows.
     pub fn empty() -> Tree
@@ -93,8 +104,8 @@ impl Tree {
     {
         match &self.node {
             Node::Empty => 0,
-            Node::Leaf(row) => row.writer,
-            Node::Fork(branch) => branch.top,
+            Node::Leaf { writer, .. } => *writer,
+            Node::Fork { top, .. } => *top,
         }
     }
 
@@ -105,8 +116,14 @@ impl Tree {
     {
         let node = match &self.node {
             Node::Empty => Node::Empty,
-            Node::Leaf(row) => Node::Leaf(Arc::try_clone(row)?),
-            Node::Fork(branch) => Node::Fork(Arc::try_clone(branch)?),
+            Node::Leaf { writer, row } => Node::Leaf {
+                writer: *writer,
+                row: Arc::try_clone(row)?,
+            },
+            Node::Fork { top, branch } => Node::Fork {
+                top: *top,
+                branch: Arc::try_clone(branch)?,
+            },
         };
         Ok(Tree { node })
     }
@@ -122,8 +139,8 @@ impl Tree {
         steps.tick();
         match &self.node {
             Node::Empty => View::Empty,
-            Node::Leaf(row) => View::Row(row),
-            Node::Fork(branch) => {
+            Node::Leaf { row, .. } => View::Row(row),
+            Node::Fork { branch, .. } => {
                 let branch: &Branch = branch;
                 View::Fork {
                     bit: branch.bit,
@@ -142,8 +159,8 @@ impl Tree {
     {
         match &self.node {
             Node::Empty => None,
-            Node::Leaf(row) => { if row.key == key { Some(row) } else { None } }
-            Node::Fork(branch) => {
+            Node::Leaf { row, .. } => { if row.key == key { Some(row) } else { None } }
+            Node::Fork { branch, .. } => {
                 let branch: &Branch = branch;
                 let high = key >> branch.bit;
                 if high / 2 != branch.prefix {
@@ -164,8 +181,8 @@ impl Tree {
     {
         match &self.node {
             Node::Empty => None,
-            Node::Leaf(row) => { if key <= row.key { Some(row) } else { None } }
-            Node::Fork(branch) => {
+            Node::Leaf { row, .. } => { if key <= row.key { Some(row) } else { None } }
+            Node::Fork { branch, .. } => {
                 let branch: &Branch = branch;
                 let high = key >> branch.bit;
                 if high > branch.prefix * 2 {
@@ -187,8 +204,16 @@ impl Tree {
     {
         match &self.node {
             Node::Empty => 0,
-            Node::Leaf(_) => 1,
-            Node::Fork(branch) => branch.count,
+            Node::Leaf { .. } => 1,
+            Node::Fork { branch, .. } => {
+                let branch: &Branch = branch;
+                if branch.count < u32::MAX {
+                    u64::from(branch.count)
+                } else {
+                    // Only the few parts with so many rows are walked.
+                    branch.left.row_count() + branch.right.row_count()
+                }
+            }
         }
     }
 
@@ -200,8 +225,8 @@ impl Tree {
     {
         match &self.node {
             Node::Empty => unreachable!(),
-            Node::Leaf(row) => row.key,
-            Node::Fork(branch) => {
+            Node::Leaf { row, .. } => row.key,
+            Node::Fork { branch, .. } => {
                 let branch: &Branch = branch;
                 (branch.prefix * 2) << branch.bit
             }
@@ -214,21 +239,24 @@ impl Tree {
         requires { CanFork left right }
         ensures { IfOk result (λ t. t ≡ left ++ right) }
     {
-        let Some(count) = left.row_count().checked_add(right.row_count()) else {
+        let Some(rows) = left.row_count().checked_add(right.row_count()) else {
             return Err(AllocError);
         };
         let stem = left.stem();
         let bit = (stem ^ right.stem()).ilog2();
+        let top = left.top().max(right.top());
         let branch = Branch {
             bit,
+            count: saturating_count(rows),
             prefix: (stem >> bit) / 2,
-            top: left.top().max(right.top()),
-            count,
             left,
             right,
         };
         Ok(Tree {
-            node: Node::Fork(Arc::new(alloc, branch)?),
+            node: Node::Fork {
+                top,
+                branch: Arc::new(alloc, branch)?,
+            },
         })
     }
 }
@@ -240,7 +268,10 @@ impl Tree {
     {
         see(&row);
         Tree {
-            node: Node::Leaf(row),
+            node: Node::Leaf {
+                writer: row.writer,
+                row,
+            },
         }
     }
 
@@ -251,7 +282,7 @@ impl Tree {
         let key = row.key;
         match &self.node {
             Node::Empty => Ok(Tree::leaf(row)),
-            Node::Leaf(old) => {
+            Node::Leaf { row: old, .. } => {
                 if key < old.key {
                     Ok(Tree::fork(alloc, Tree::leaf(row), self.share()?)?)
                 } else if old.key < key {
@@ -260,7 +291,7 @@ impl Tree {
                     Ok(Tree::leaf(row))
                 }
             }
-            Node::Fork(branch) => {
+            Node::Fork { branch, .. } => {
                 let branch: &Branch = branch;
                 let high = key >> branch.bit;
                 if high / 2 < branch.prefix {
