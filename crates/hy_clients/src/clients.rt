@@ -21,7 +21,7 @@ use crate::replies::all_replies;
 use crate::service::Service;
 use crate::serving::Cut;
 use crate::task::serve_all;
-use hy_base::{Entry, Home, Items, Replies, Script, Shared};
+use hy_base::{Entry, Items, Replies, Script, Shared};
 use hy_disk::Disk;
 use hy_hist::Pass;
 use hy_hub::{Closed, Contents, Events, Hub};
@@ -175,37 +175,6 @@ fn run_on<D: Disk + Send, R: Threads + Wait + Sync, G: Gate + Sync>(
     }
 }
 
-// The same over a log that was found, with each client's home.
-fn run_from<D: Disk + Send, R: Threads + Wait + Sync, G: Gate + Sync>(
-    rt: &R,
-    alloc: Global,
-    script: &Script,
-    log: PageLog<D>,
-    entries: Vec<Shared<Entry>>,
-    start: Roller,
-    homes: &[Home],
-    threads: usize,
-    gate: &G,
-) -> Result<Run<D>, Broken<D>>
-    requires opens { IsInitial D.tells log entries.items start script.now.servers homes.now }
-    requires homes { homes.now ≡ (script_setting script.now).homes }
-    requires shape { start.shape ≡ script.now.shape }
-    requires threads { IsThreadCount threads }
-    ensures run { IfOk result (λ run. IsFinished D.tells script.now entries.items start run.events run.replies run.boards run.log) }
-    ensures cut { IfErr result (λ broken. IsCutShort D.tells D.content script.now.shape entries.items broken.log) }
-    ensures cause { IfErr result (λ broken. broken.cause ≡ Cause.Device → Rose (D.faults_of log.disk) (D.faults_of broken.log.disk)) }
-    ensures memory { IfErr result (λ broken. broken.cause ≡ Cause.Memory → broken.log.stopped ≡ None) }
-    ensures stopped { IfErr result (λ broken. broken.log.stopped ≢ None → Rose (D.faults_of log.disk) (D.faults_of broken.log.disk)) }
-    ensures later { IfOk result (λ run. D.faults_of log.disk ≤ D.faults_of run.log.disk) }
-    ensures later_cut { IfErr result (λ broken. D.faults_of log.disk ≤ D.faults_of broken.log.disk) }
-{
-    let _ = start.base_tree();
-    match Hub::new(alloc, log, entries, start, script.servers(), homes) {
-        Err(log) => Err(break_off(log)),
-        Ok((hub, pass)) => run_on(rt, alloc, script, hub, pass, threads, gate),
-    }
-}
-
 /// Runs all programs of all clients over a log, each client on a thread of its own, and brings each server to the log's end.
 /// The clients share `threads` for their rolls; those at the end have all. As a client's task starts it calls the gate.
 ///
@@ -235,10 +204,12 @@ pub fn run_clients<D: Disk + Send, R: Threads + Wait + Sync, G: Gate + Sync>(
     ensures later { IfOk result (λ run. D.faults_of log.disk ≤ D.faults_of run.log.disk) }
     ensures later_cut { IfErr result (λ broken. D.faults_of log.disk ≤ D.faults_of broken.log.disk) }
 {
-    match homes_of(alloc, script) {
-        Err(_) => Err(break_off(log)),
-        Ok(homes) => run_from(
-            rt, alloc, script, log, entries, start, &homes, threads, gate,
-        ),
+    let Ok(homes) = homes_of(alloc, script) else {
+        return Err(break_off(log));
+    };
+    let _ = start.base_tree();
+    match Hub::new(alloc, log, entries, start, script.servers(), &homes) {
+        Err(log) => Err(break_off(log)),
+        Ok((hub, pass)) => run_on(rt, alloc, script, hub, pass, threads, gate),
     }
 }

@@ -13,7 +13,7 @@ use crate::serving::{Cut, completed, published};
 use hy_disk::Disk;
 use hy_hist::Pass;
 use hy_hub::{Backlog, Contents};
-use hy_pipe::{Gate, roll};
+use hy_pipe::Gate;
 use std::sync::Wait;
 use std::thread::Threads;
 
@@ -38,18 +38,10 @@ fn publish_look<D: Disk, R: Threads + Wait + Sync, G: Gate + Sync>(
     ensures log { (state_after pass.new.seen).log ≡ (state_after pass.old.seen).log }
     ensures ends { OnOk result ((state_after pass.new.seen).boards ≡ change_nth (λ _. len_of pass.old.seen) (state_after pass.old.seen).boards server) }
 {
-    let entries = look.entries.as_slice();
-    if entries.is_empty() {
+    if look.entries.as_slice().is_empty() {
         return Ok(());
     }
-    let rolled = roll(
-        &look.roller,
-        rt,
-        service.alloc,
-        entries,
-        service.threads,
-        service.gate,
-    )?;
+    let rolled = service.roll_on(rt, look)?;
     published(service.hub.publish(rt, pass, server, rolled))
 }
 

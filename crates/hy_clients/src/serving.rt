@@ -22,7 +22,7 @@ use hy_hist::Pass;
 use hy_hub::{
     AppendRefusal, Backlog, BeginRefusal, Begun, Contents, EndRefusal, PadRefusal, PublishRefusal,
 };
-use hy_pipe::{Gate, roll};
+use hy_pipe::Gate;
 use hy_roller::{ProgramEnd, Roller};
 use std::alloc::{AllocError, AllocFailed};
 use std::sync::Wait;
@@ -177,15 +177,7 @@ fn roll_look<D: Disk, R: Threads + Sync, G: Gate + Sync>(
     if last <= look.roller.at() {
         return Ok(None);
     }
-    let entries = look.entries.as_slice();
-    let rolled = roll(
-        &look.roller,
-        rt,
-        service.alloc,
-        entries,
-        service.threads,
-        service.gate,
-    )?;
+    let rolled = service.roll_on(rt, look)?;
     Ok(Some(rolled))
 }
 

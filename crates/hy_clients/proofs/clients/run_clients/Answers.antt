@@ -4,9 +4,16 @@ use Rattle.hy_clients.specs.Finished.{IsCutShort}
 use Rattle.hy_clients.proofs.Left.{initial_cut}
 use Rattle.hy_clients.proofs.clients.run_clients.Goals as goal
 
-pub returns-in-Err-clause-cut : goal.returns-in-Err-clause-cut
-returns-in-Err-clause-cut g c =
+pub returns-in_default-clause-cut : goal.returns-in_default-clause-cut
+returns-in_default-clause-cut g c =
     let script = c.args.script.now in
     let log = c.args.log in
     let cut = initial_cut g.D.Disk.tells g.D.Disk.content log log c.args.entries.items c.args.start script.servers (setting_of script).homes script.shape c.requires.opens c.requires.shape refl c.requires.opens.running (λ t. refl) in
     subst (IsCutShort g.D.Disk.tells g.D.Disk.content script.shape c.args.entries.items) (sym c.break_off.ensures.log) cut
+
+pub returns-in-Err-clause-cut : goal.returns-in-Err-clause-cut
+returns-in-Err-clause-cut g c =
+    let script = c.args.script.now in
+    let m = c.in-Err.ensures in
+    let cut = initial_cut g.D.Disk.tells g.D.Disk.content c.args.log c.in-Err.log c.args.entries.items c.args.start script.servers (setting_of script).homes script.shape c.requires.opens c.requires.shape m.memory.0 m.memory.1 m.bodies in
+    subst (IsCutShort g.D.Disk.tells g.D.Disk.content script.shape c.args.entries.items) (sym c.break_off-in-Err.ensures.log) cut
