@@ -18,7 +18,8 @@ type Pos = u32;
 struct Row {
     key: Key,
     writer: Pos,
-    value: Option<Arc<[u8]>>,
+    // Kept and let go with the row.
+    _value: Option<Arc<[u8]>>,
 }
 
 // ---- the tree
@@ -234,7 +235,7 @@ impl Log {
             let writer = (at + turn + 1) as Pos;
             joined += 1;
             marks.extend(keys().map(|key| (key, known)));
-            rows.extend(entry.puts.iter().map(|put| Arc::new(Row { key: put.0, writer, value: Some(put.1.clone()) })));
+            rows.extend(entry.puts.iter().map(|put| Arc::new(Row { key: put.0, writer, _value: Some(put.1.clone()) })));
         }
         marks.sort_unstable();
         rows.sort_unstable_by_key(|row| row.key);
