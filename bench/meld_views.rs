@@ -89,22 +89,55 @@ fn count_late(tree: &Tree, base: Pos) -> u64 {
     }
 }
 
-// Spans whose writers are known up to a position.
-type Marks = Vec<(Key, Key, Pos)>;
+// Blocks of keys, by their first and last ones, and up to which position their writers are known. Each has as many keys as a
+// power of two, and begins at a multiple of that. They stand in order.
+type Mark = (Key, Key, Pos);
 
-fn marks_of(entry: &Entry, base: Pos) -> Marks {
-    let known = entry.snap.max(base);
-    let keys = entry.points.iter().chain(entry.writes.iter().map(|w| &w.0));
-    let spans = entry.spans.iter().map(|s| (s.0, s.1, known));
-    keys.map(|key| (*key, *key, known)).chain(spans).collect()
+// The blocks of a span: the widest that fits, and then those behind it.
+fn cover(mut lo: Key, hi: Key, known: Pos, marks: &mut Vec<Mark>) {
+    while lo <= hi {
+        let bits = lo.trailing_zeros().min((hi - lo + 1).ilog2());
+        marks.push((lo, lo + (1 << bits) - 1, known));
+        lo += 1 << bits;
+    }
 }
 
-fn is_late(marks: &Marks, key: Key, writer: Pos) -> bool {
-    marks.iter().any(|m| m.0 <= key && key <= m.1 && m.2 < writer)
+fn marks_of(entry: &Entry, base: Pos) -> Vec<Mark> {
+    let known = entry.snap.max(base);
+    let keys = entry.points.iter().chain(entry.writes.iter().map(|w| &w.0));
+    let mut marks: Vec<Mark> = keys.map(|key| (*key, *key, known)).collect();
+    for span in &entry.spans {
+        cover(span.0, span.1, known, &mut marks);
+    }
+    marks
+}
+
+// The least position up to which a mark knows the key.
+fn dependency(marks: &[Mark], key: Key) -> Option<Pos> {
+    marks.iter().filter(|m| m.0 <= key && key <= m.1).map(|m| m.2).min()
+}
+
+fn lesser(known: Option<Pos>, other: Option<Pos>) -> Option<Pos> {
+    known.into_iter().chain(other).min()
+}
+
+fn is_past(known: Option<Pos>, writer: Pos) -> bool {
+    known.is_some_and(|known| known < writer)
+}
+
+fn is_late(marks: &[Mark], key: Key, writer: Pos) -> bool {
+    is_past(dependency(marks, key), writer)
+}
+
+// The marks that begin in a block, and what is known of all of it.
+fn narrowed(marks: &[Mark], known: Option<Pos>, lo: Key, hi: Key) -> (&[Mark], Option<Pos>) {
+    let (before, rest) = marks.split_at(marks.partition_point(|m| m.0 < lo));
+    let (inner, _) = rest.split_at(rest.partition_point(|m| m.0 <= hi));
+    (inner, lesser(known, dependency(before, lo)))
 }
 
 struct Meld<'a> {
-    marks: &'a Marks,
+    marks: &'a [Mark],
     base: Pos,
     views: u64,
 }
@@ -123,19 +156,34 @@ fn sides(tree: &Tree, bit: u32) -> (Tree, Tree) {
 }
 
 impl Meld<'_> {
+    // Whether a key of a block without writes clashes.
+    fn has_clash(&mut self, cur: &Tree, marks: &[Mark], known: Option<Pos>) -> bool {
+        let by = top(cur);
+        if by <= self.base || (marks.is_empty() && !is_past(known, by)) {
+            return false;
+        }
+        self.views += 1;
+        match &**cur {
+            Node::Empty => false,
+            Node::Row { key, .. } => is_past(lesser(known, dependency(marks, *key)), by),
+            Node::Fork { bit, prefix, left, right, .. } => {
+                let low = (prefix * 2) << bit;
+                let (marks, known) = narrowed(marks, known, low, low + ((2 << bit) - 1));
+                self.has_clash(left, marks, known) || self.has_clash(right, marks, known)
+            }
+        }
+    }
+
     // The melded tree, none where a key clashes.
     fn block(&mut self, cur: &Tree, ready: &Tree, writes: &[Key]) -> Option<Tree> {
         if top(cur) <= self.base {
             return Some(ready.clone());
         }
-        self.views += 1;
-        let (stem, bits) = root(cur).unwrap();
-        let low = stem >> bits << bits;
-        let high = low + ((1 << bits) - 1);
-        if writes.is_empty() && !self.marks.iter().any(|m| m.0 <= high && low <= m.1) {
-            return Some(cur.clone());
+        if writes.is_empty() {
+            return if self.has_clash(cur, self.marks, None) { None } else { Some(cur.clone()) };
         }
-        self.views += 1;
+        self.views += 2;
+        let (stem, bits) = root(cur).unwrap();
         let joint = match root(ready) {
             None => bits,
             Some((other, _)) if stem == other => bits.max(root(ready).unwrap().1),
@@ -145,7 +193,7 @@ impl Meld<'_> {
             if is_late(self.marks, stem, top(cur)) {
                 return None;
             }
-            return Some(if writes.is_empty() { cur.clone() } else { ready.clone() });
+            return Some(ready.clone());
         }
         let bit = joint - 1;
         let (lower, upper) = writes.split_at(writes.partition_point(|key| (key >> bit) % 2 == 0));
@@ -156,7 +204,7 @@ impl Meld<'_> {
     }
 }
 
-fn touches(marks: &Marks, key: Key) -> bool {
+fn touches(marks: &[Mark], key: Key) -> bool {
     marks.iter().any(|m| m.0 <= key && key <= m.1)
 }
 
@@ -168,7 +216,7 @@ fn main() {
     let (mut melds, mut with_late, mut views, mut late, mut sum) = (0u64, 0u64, 0u64, 0u64, 0f64);
     for (n, group) in log.chunks(GROUP).enumerate() {
         let base = GROUP * WINDOW * (n / WINDOW).saturating_sub(1);
-        let (mut marks, mut writes): (Marks, Vec<(Key, Pos)>) = (Vec::new(), Vec::new());
+        let (mut marks, mut writes): (Vec<Mark>, Vec<(Key, Pos)>) = (Vec::new(), Vec::new());
         for (at, entry) in group.iter().enumerate() {
             let Some(entry) = entry else { continue };
             let own = marks_of(entry, 0);
@@ -180,6 +228,7 @@ fn main() {
             marks.extend(marks_of(entry, base));
             writes.extend(entry.writes.iter().map(|w| (w.0, n * GROUP + at + 1)));
         }
+        marks.sort();
         writes.sort();
         let ready = writes.iter().fold(base_tree.clone(), |tree, w| put(&tree, w.0, w.1));
         let keys: Vec<Key> = writes.iter().map(|w| w.0).collect();

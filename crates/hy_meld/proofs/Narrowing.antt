@@ -1,11 +1,11 @@
 -- What marks know of the keys of a block, by those that begin in it and those that hold all of it.
-use Rattle.std.proofs.Common.{◌≡◌, ℕ, zero, suc, ◌+◌, ◌-◌, ◌*◌, ◌/◌, ◌%◌, ◌^◌, ◌<◌, ◌≤◌, true, List, [], ◌∷◌, ◌++◌, length, take, drop, Option, Some, None, refl, sym, ap, ◌∙◌, arith, inl, inr, IfSome}
+use Rattle.std.proofs.Common.{◌≡◌, ℕ, zero, suc, ◌+◌, ◌-◌, ◌*◌, ◌/◌, ◌%◌, ◌^◌, ◌<◌, ◌≤◌, true, List, [], ◌∷◌, ◌++◌, length, take, drop, Option, Some, None, refl, sym, ap, ◌∙◌, arith, inl, inr, IfSome, MatchOption}
 use Rattle.std.specs.List.{AllByRecursion, AllWithin}
 use Rattle.std.specs.List.Sorted.{IsPartitionPoint}
-use Rattle.std.proofs.lemmas.Bool.{cases_lt, le-leb, lt-leb}
+use Rattle.std.proofs.lemmas.Bool.{cases_lt, and_from, le-leb, lt-leb}
 use Rattle.std.proofs.lemmas.List.{take-append-drop}
 use Rattle.std.proofs.lemmas.Nat.{pow_pos, pow-add, div-add-mod'}
-use Rattle.std.proofs.Math.Nat.{mod-lt, div-lt_iff_lt-mul, mul-le-mul_right}
+use Rattle.std.proofs.Math.Nat.{mod-lt, mul-mod_left, div-mul-le_self, lt-div-mul-add, div-lt_iff_lt-mul, mul-le-mul_right}
 use Rattle.hy_base.specs.declared.record.Span.{Span}
 use Rattle.hy_base.specs.declared.record.Mark.{Mark}
 use Rattle.hy_base.specs.Entry.{is_in_span}
@@ -14,12 +14,13 @@ use Rattle.hy_base.proofs.MarkLemmas.{lesser_none, lesser_assoc}
 use Rattle.hy_base.proofs.ListLemmas.{all_left, all_right}
 use Rattle.hy_mark.specs.Blocks.{IsBlock}
 use Rattle.hy_mark.specs.Orders.{IsBefore, AreOrdered, AreBlocks, ArePairs}
-use Rattle.hy_mark.proofs.Widths.{aligned_less}
+use Rattle.hy_mark.proofs.Widths.{aligned_less, power_up}
 use Rattle.hy_mark.proofs.Deps.{dep_append}
 use Rattle.hy_mark.proofs.Ordering.{ordered_rest}
 use Rattle.hy_tree.proofs.Bits.{wider_same}
 use Rattle.hy_meld.specs.Known.{known_in, IsKnownFrom}
-use Rattle.hy_meld.proofs.Lookup.{in_span, block_prefix}
+use Rattle.hy_meld.specs.Roots.{IsBlockOf}
+use Rattle.hy_meld.proofs.Lookup.{in_span, block_prefix, start_of}
 use Rattle.hy_meld.proofs.Earliest.{dep_past}
 
 -- ---- blocks
@@ -27,14 +28,20 @@ use Rattle.hy_meld.proofs.Earliest.{dep_past}
 not_empty : (b : Span) → IsBlock b → b.lo ≤ b.hi
 not_empty b is = omega (arith, is.size, pow_pos is.bits)
 
--- the block of the numbers that are alike above the low bits fits where they do
-pub block_fits : (stem bits : ℕ) → stem < 2 ^ 64 → bits ≤ 64 → stem / 2 ^ bits * 2 ^ bits + 2 ^ bits ≤ 2 ^ 64
-block_fits stem bits lt le =
-    let e : 64 ≡ (64 - bits) + bits = omega arith in
-    let whole : 2 ^ 64 ≡ 2 ^ (64 - bits) * 2 ^ bits = ap (λ n. 2 ^ n) e ∙ pow-add 2 (64 - bits) bits in
-    let below : stem / 2 ^ bits < 2 ^ (64 - bits) = (div-lt_iff_lt-mul (pow_pos bits)).1 (omega (arith, whole)) in
-    let room : (stem / 2 ^ bits + 1) * 2 ^ bits ≤ 2 ^ (64 - bits) * 2 ^ bits = mul-le-mul_right (2 ^ bits) (omega arith) in
-    omega (arith, room, whole)
+pub block_is : (prefix bits lo hi : ℕ) → lo ≡ prefix * 2 ^ bits → hi + 1 ≡ lo + 2 ^ bits → IsBlockOf bits prefix (record { lo = lo; hi = hi })
+block_is prefix bits lo hi start size = (
+  record { bits = bits; aligned = rw start (mul-mod_left prefix (2 ^ bits)); size = size },
+  λ key e. and_from _ _ (le-leb lo key (omega (arith, start, div-mul-le_self key (2 ^ bits), ap (λ k. k * 2 ^ bits) e))) (le-leb key hi (omega (arith, start, size, lt-div-mul-add {a = key} {b = 2 ^ bits} (pow_pos bits), ap (λ k. k * 2 ^ bits) e))),
+)
+
+-- the halves of the least block with a number that fits, above the bit, fit too
+pub halves_fit : (stem bit : ℕ) → stem < 2 ^ 64 → bit < 64 → (stem / 2 ^ bit / 2 * 2 + 2) * 2 ^ bit ≤ 2 ^ 64
+halves_fit stem bit lt low =
+    let e : 64 ≡ (64 - (bit + 1)) + (bit + 1) = omega arith in
+    let whole : 2 ^ 64 ≡ 2 ^ (64 - (bit + 1)) * 2 ^ (bit + 1) = ap (λ n. 2 ^ n) e ∙ pow-add 2 (64 - (bit + 1)) (bit + 1) in
+    let below : stem / 2 ^ (bit + 1) < 2 ^ (64 - (bit + 1)) = (div-lt_iff_lt-mul (pow_pos (bit + 1))).1 (omega (arith, whole)) in
+    let room : (stem / 2 ^ (bit + 1) + 1) * 2 ^ (bit + 1) ≤ 2 ^ (64 - (bit + 1)) * 2 ^ (bit + 1) = mul-le-mul_right (2 ^ (bit + 1)) (omega arith) in
+    omega (arith, room, whole, start_of stem bit, power_up bit)
 
 -- a block that begins before another and holds its first key holds it whole
 holds_whole : (a b : Span) → IsBlock a → IsBlock b → a.lo < b.lo → b.lo ≤ a.hi → b.hi ≤ a.hi
@@ -92,6 +99,11 @@ narrowed_from base lo before inner behind known f key =
     let here = from_parts base (dep before key) (dep (inner ++ behind) key) (rw (dep_append before (inner ++ behind) key) at (from_parts base known _ (f key)).1) in
     let part = from_parts base (dep inner key) (dep behind key) (rw (dep_append inner behind key) at here.1) in
     from_both base _ (dep inner key) (from_both base known (dep before lo) at.0 first.0) part.0
+
+-- with no mark left, all is known up to what is known of the whole block
+pub from_empty : (base : ℕ) (known : Option ℕ) (marks : List Mark) → marks ≡ [] → IsKnownFrom base known marks → MatchOption known ((key : ℕ) → known_in known marks key ≡ None) (λ d. (base ≤ d) × IsKnownFrom d known marks)
+from_empty base None marks e f = λ key. rw e refl
+from_empty base (Some d) marks e f = (rw e at (f 0), λ key. rw e (omega arith))
 
 -- ---- cuts
 
