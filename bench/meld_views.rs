@@ -129,15 +129,21 @@ fn is_late(marks: &[Mark], key: Key, writer: Pos) -> bool {
     is_past(dependency(marks, key), writer)
 }
 
+// The halves of a block at a bit, by a number in the block.
+fn half_blocks(stem: Key, bit: u32) -> [(Key, Key); 2] {
+    let low = ((stem >> bit) / 2 * 2) << bit;
+    let half = 1 << bit;
+    [(low, low + (half - 1)), (low + half, low + half + (half - 1))]
+}
+
 // The marks that begin in a block, and what is known of all of it.
-fn narrowed(marks: &[Mark], known: Option<Pos>, lo: Key, hi: Key) -> (&[Mark], Option<Pos>) {
+fn narrowed(marks: &[Mark], known: Option<Pos>, (lo, hi): (Key, Key)) -> (&[Mark], Option<Pos>) {
     let (before, rest) = marks.split_at(marks.partition_point(|m| m.0 < lo));
     let (inner, _) = rest.split_at(rest.partition_point(|m| m.0 <= hi));
     (inner, lesser(known, dependency(before, lo)))
 }
 
-struct Meld<'a> {
-    marks: &'a [Mark],
+struct Meld {
     base: Pos,
     views: u64,
 }
@@ -155,11 +161,14 @@ fn sides(tree: &Tree, bit: u32) -> (Tree, Tree) {
     }
 }
 
-impl Meld<'_> {
+impl Meld {
     // Whether a key of a block without writes clashes.
     fn has_clash(&mut self, cur: &Tree, marks: &[Mark], known: Option<Pos>) -> bool {
+        let Some(from) = (if marks.is_empty() { known } else { Some(self.base) }) else {
+            return false;
+        };
         let by = top(cur);
-        if by <= self.base || (marks.is_empty() && !is_past(known, by)) {
+        if by <= from {
             return false;
         }
         self.views += 1;
@@ -167,20 +176,21 @@ impl Meld<'_> {
             Node::Empty => false,
             Node::Row { key, .. } => is_past(lesser(known, dependency(marks, *key)), by),
             Node::Fork { bit, prefix, left, right, .. } => {
-                let low = (prefix * 2) << bit;
-                let (marks, known) = narrowed(marks, known, low, low + ((2 << bit) - 1));
-                self.has_clash(left, marks, known) || self.has_clash(right, marks, known)
+                let [lower, upper] = half_blocks((prefix * 2) << bit, *bit);
+                let (inner, whole) = narrowed(marks, known, lower);
+                let (others, of_others) = narrowed(marks, known, upper);
+                self.has_clash(left, inner, whole) || self.has_clash(right, others, of_others)
             }
         }
     }
 
     // The melded tree, none where a key clashes.
-    fn block(&mut self, cur: &Tree, ready: &Tree, writes: &[Key]) -> Option<Tree> {
+    fn block(&mut self, cur: &Tree, ready: &Tree, marks: &[Mark], known: Option<Pos>, writes: &[Key]) -> Option<Tree> {
         if top(cur) <= self.base {
             return Some(ready.clone());
         }
         if writes.is_empty() {
-            return if self.has_clash(cur, self.marks, None) { None } else { Some(cur.clone()) };
+            return if self.has_clash(cur, marks, known) { None } else { Some(cur.clone()) };
         }
         self.views += 2;
         let (stem, bits) = root(cur).unwrap();
@@ -190,7 +200,7 @@ impl Meld<'_> {
             Some((other, other_bits)) => bits.max(other_bits).max((stem ^ other).ilog2() + 1),
         };
         if joint == 0 {
-            if is_late(self.marks, stem, top(cur)) {
+            if is_past(lesser(known, dependency(marks, stem)), top(cur)) {
                 return None;
             }
             return Some(ready.clone());
@@ -198,8 +208,11 @@ impl Meld<'_> {
         let bit = joint - 1;
         let (lower, upper) = writes.split_at(writes.partition_point(|key| (key >> bit) % 2 == 0));
         let ((cur_left, cur_right), (left, right)) = (sides(cur, bit), sides(ready, bit));
-        let left = self.block(&cur_left, &left, lower)?;
-        let right = self.block(&cur_right, &right, upper)?;
+        let blocks = half_blocks(stem, bit);
+        let (inner, whole) = narrowed(marks, known, blocks[0]);
+        let left = self.block(&cur_left, &left, inner, whole, lower)?;
+        let (inner, whole) = narrowed(marks, known, blocks[1]);
+        let right = self.block(&cur_right, &right, inner, whole, upper)?;
         Some(fork(left, right))
     }
 }
@@ -232,9 +245,9 @@ fn main() {
         writes.sort();
         let ready = writes.iter().fold(base_tree.clone(), |tree, w| put(&tree, w.0, w.1));
         let keys: Vec<Key> = writes.iter().map(|w| w.0).collect();
-        let mut meld = Meld { marks: &marks, base, views: 0 };
+        let mut meld = Meld { base, views: 0 };
         let c = count_late(&tree, base);
-        tree = meld.block(&tree, &ready, &keys).unwrap_or(tree);
+        tree = meld.block(&tree, &ready, &marks, None, &keys).unwrap_or(tree);
         melds += 1;
         views += meld.views;
         late += c;

@@ -1,7 +1,7 @@
 //! A block without writes: the current tree's part of it stays, unless a marked key in it was written late.
 //!
-//! Only the current tree is looked into. The marks are narrowed to each block on the way down, so that the walk ends where
-//! no mark is left that can matter.
+//! Only the current tree is looked into. The marks are narrowed to each half of a block on the way down, so that the walk ends
+//! where none is left that can matter.
 ghost use Rattle.std.specs.Prelude.{◌≡◌, ℕ, ◌+◌, ◌*◌, ◌≤◌, None, MatchOption};
 ghost use Rattle.hy_base.specs.Marks.{first_late};
 ghost use Rattle.hy_tree.specs.TreeRows.{InBlock};
