@@ -89,22 +89,61 @@ fn count_late(tree: &Tree, base: Pos) -> u64 {
     }
 }
 
-// Spans whose writers are known up to a position.
-type Marks = Vec<(Key, Key, Pos)>;
+// Blocks of keys, by their first and last ones, and up to which position their writers are known. Each has as many keys as a
+// power of two, and begins at a multiple of that. They stand in order.
+type Mark = (Key, Key, Pos);
 
-fn marks_of(entry: &Entry, base: Pos) -> Marks {
+// The blocks of a span: the widest that fits, and then those behind it.
+fn cover(mut lo: Key, hi: Key, known: Pos, marks: &mut Vec<Mark>) {
+    while lo <= hi {
+        let bits = lo.trailing_zeros().min((hi - lo + 1).ilog2());
+        marks.push((lo, lo + (1 << bits) - 1, known));
+        lo += 1 << bits;
+    }
+}
+
+fn marks_of(entry: &Entry, base: Pos) -> Vec<Mark> {
     let known = entry.snap.max(base);
     let keys = entry.points.iter().chain(entry.writes.iter().map(|w| &w.0));
-    let spans = entry.spans.iter().map(|s| (s.0, s.1, known));
-    keys.map(|key| (*key, *key, known)).chain(spans).collect()
+    let mut marks: Vec<Mark> = keys.map(|key| (*key, *key, known)).collect();
+    for span in &entry.spans {
+        cover(span.0, span.1, known, &mut marks);
+    }
+    marks
 }
 
-fn is_late(marks: &Marks, key: Key, writer: Pos) -> bool {
-    marks.iter().any(|m| m.0 <= key && key <= m.1 && m.2 < writer)
+// The least position up to which a mark knows the key.
+fn dependency(marks: &[Mark], key: Key) -> Option<Pos> {
+    marks.iter().filter(|m| m.0 <= key && key <= m.1).map(|m| m.2).min()
 }
 
-struct Meld<'a> {
-    marks: &'a Marks,
+fn lesser(known: Option<Pos>, other: Option<Pos>) -> Option<Pos> {
+    known.into_iter().chain(other).min()
+}
+
+fn is_past(known: Option<Pos>, writer: Pos) -> bool {
+    known.is_some_and(|known| known < writer)
+}
+
+fn is_late(marks: &[Mark], key: Key, writer: Pos) -> bool {
+    is_past(dependency(marks, key), writer)
+}
+
+// The halves of a block at a bit, by a number in the block.
+fn half_blocks(stem: Key, bit: u32) -> [(Key, Key); 2] {
+    let low = ((stem >> bit) / 2 * 2) << bit;
+    let half = 1 << bit;
+    [(low, low + (half - 1)), (low + half, low + half + (half - 1))]
+}
+
+// The marks that begin in a block, and what is known of all of it.
+fn narrowed(marks: &[Mark], known: Option<Pos>, (lo, hi): (Key, Key)) -> (&[Mark], Option<Pos>) {
+    let (before, rest) = marks.split_at(marks.partition_point(|m| m.0 < lo));
+    let (inner, _) = rest.split_at(rest.partition_point(|m| m.0 <= hi));
+    (inner, lesser(known, dependency(before, lo)))
+}
+
+struct Meld {
     base: Pos,
     views: u64,
 }
@@ -122,41 +161,63 @@ fn sides(tree: &Tree, bit: u32) -> (Tree, Tree) {
     }
 }
 
-impl Meld<'_> {
+impl Meld {
+    // Whether a key of a block without writes clashes.
+    fn has_clash(&mut self, cur: &Tree, marks: &[Mark], known: Option<Pos>) -> bool {
+        let Some(from) = (if marks.is_empty() { known } else { Some(self.base) }) else {
+            return false;
+        };
+        let by = top(cur);
+        if by <= from {
+            return false;
+        }
+        self.views += 1;
+        match &**cur {
+            Node::Empty => false,
+            Node::Row { key, .. } => is_past(lesser(known, dependency(marks, *key)), by),
+            Node::Fork { bit, prefix, left, right, .. } => {
+                let [lower, upper] = half_blocks((prefix * 2) << bit, *bit);
+                let (inner, whole) = narrowed(marks, known, lower);
+                let (others, of_others) = narrowed(marks, known, upper);
+                self.has_clash(left, inner, whole) || self.has_clash(right, others, of_others)
+            }
+        }
+    }
+
     // The melded tree, none where a key clashes.
-    fn block(&mut self, cur: &Tree, ready: &Tree, writes: &[Key]) -> Option<Tree> {
+    fn block(&mut self, cur: &Tree, ready: &Tree, marks: &[Mark], known: Option<Pos>, writes: &[Key]) -> Option<Tree> {
         if top(cur) <= self.base {
             return Some(ready.clone());
         }
-        self.views += 1;
-        let (stem, bits) = root(cur).unwrap();
-        let low = stem >> bits << bits;
-        let high = low + ((1 << bits) - 1);
-        if writes.is_empty() && !self.marks.iter().any(|m| m.0 <= high && low <= m.1) {
-            return Some(cur.clone());
+        if writes.is_empty() {
+            return if self.has_clash(cur, marks, known) { None } else { Some(cur.clone()) };
         }
-        self.views += 1;
+        self.views += 2;
+        let (stem, bits) = root(cur).unwrap();
         let joint = match root(ready) {
             None => bits,
             Some((other, _)) if stem == other => bits.max(root(ready).unwrap().1),
             Some((other, other_bits)) => bits.max(other_bits).max((stem ^ other).ilog2() + 1),
         };
         if joint == 0 {
-            if is_late(self.marks, stem, top(cur)) {
+            if is_past(lesser(known, dependency(marks, stem)), top(cur)) {
                 return None;
             }
-            return Some(if writes.is_empty() { cur.clone() } else { ready.clone() });
+            return Some(ready.clone());
         }
         let bit = joint - 1;
         let (lower, upper) = writes.split_at(writes.partition_point(|key| (key >> bit) % 2 == 0));
         let ((cur_left, cur_right), (left, right)) = (sides(cur, bit), sides(ready, bit));
-        let left = self.block(&cur_left, &left, lower)?;
-        let right = self.block(&cur_right, &right, upper)?;
+        let blocks = half_blocks(stem, bit);
+        let (inner, whole) = narrowed(marks, known, blocks[0]);
+        let left = self.block(&cur_left, &left, inner, whole, lower)?;
+        let (inner, whole) = narrowed(marks, known, blocks[1]);
+        let right = self.block(&cur_right, &right, inner, whole, upper)?;
         Some(fork(left, right))
     }
 }
 
-fn touches(marks: &Marks, key: Key) -> bool {
+fn touches(marks: &[Mark], key: Key) -> bool {
     marks.iter().any(|m| m.0 <= key && key <= m.1)
 }
 
@@ -168,7 +229,7 @@ fn main() {
     let (mut melds, mut with_late, mut views, mut late, mut sum) = (0u64, 0u64, 0u64, 0u64, 0f64);
     for (n, group) in log.chunks(GROUP).enumerate() {
         let base = GROUP * WINDOW * (n / WINDOW).saturating_sub(1);
-        let (mut marks, mut writes): (Marks, Vec<(Key, Pos)>) = (Vec::new(), Vec::new());
+        let (mut marks, mut writes): (Vec<Mark>, Vec<(Key, Pos)>) = (Vec::new(), Vec::new());
         for (at, entry) in group.iter().enumerate() {
             let Some(entry) = entry else { continue };
             let own = marks_of(entry, 0);
@@ -180,12 +241,13 @@ fn main() {
             marks.extend(marks_of(entry, base));
             writes.extend(entry.writes.iter().map(|w| (w.0, n * GROUP + at + 1)));
         }
+        marks.sort();
         writes.sort();
         let ready = writes.iter().fold(base_tree.clone(), |tree, w| put(&tree, w.0, w.1));
         let keys: Vec<Key> = writes.iter().map(|w| w.0).collect();
-        let mut meld = Meld { marks: &marks, base, views: 0 };
+        let mut meld = Meld { base, views: 0 };
         let c = count_late(&tree, base);
-        tree = meld.block(&tree, &ready, &keys).unwrap_or(tree);
+        tree = meld.block(&tree, &ready, &marks, None, &keys).unwrap_or(tree);
         melds += 1;
         views += meld.views;
         late += c;
