@@ -112,7 +112,8 @@ fn look_whole<D: Disk, R: Wait, G>(
     Ok(look)
 }
 
-// The same, where the last group is completed only if the position lies in it.
+// The same, once the group of a position is whole. It is completed only where nothing is on its way that may do so: fillers
+// take a batch of their own.
 fn look_to<D: Disk, R: Wait, G>(
     rt: &R,
     service: &Service<'_, D, G>,
@@ -126,11 +127,17 @@ fn look_to<D: Disk, R: Wait, G>(
     ensures goes { (client : ℕ) → GoesOn client pass.old pass.new [] }
     ensures rolls { IfOk result (λ look. IsRollable pass.new.seen look) }
 {
-    let look = look_on(rt, service, pass, server)?;
-    if reaches(&look, at) {
-        return Ok(look);
+    for _ in rt.forever() {
+        let landings = service.hub.landings();
+        let look = look_on(rt, service, pass, server)?;
+        if reaches(&look, at) {
+            return Ok(look);
+        }
+        if !service.hub.await_landing(rt, landings) {
+            return look_whole(rt, service, pass, server);
+        }
     }
-    look_whole(rt, service, pass, server)
+    unreachable!()
 }
 
 /// Whether the server's board is at a roller's position, by the answer to a publish.
