@@ -134,17 +134,27 @@ pairs_take i xs p = pairs_front (take i xs) (drop i xs) (rw (take-append-drop i 
 pub pairs_drop : (i : ℕ) (xs : List Mark) → ArePairs xs → ArePairs (drop i xs)
 pairs_drop i xs p = pairs_rest (take i xs) (drop i xs) (rw (take-append-drop i xs) p)
 
+both_hold : (P Q : Mark → Type 0) (ms : List Mark) → AllByRecursion P ms → AllByRecursion Q ms → AllByRecursion (λ m. P m × Q m) ms
+both_hold P Q [] p q = tt
+both_hold P Q (m ∷ ms) p q = ((p.0, q.0), both_hold P Q ms p.1 q.1)
+
 -- marks cut where they begin in a block, and where they begin behind it
 pub record Cuts (block : Span) (marks : List Mark) (i j : ℕ) : Type 0 where
   pub is : IsBlock block
   pub pairs : ArePairs marks
   pub within : i ≤ length marks
   pub cut : IsPartitionPoint (λ (m : Mark). m.block.lo < block.lo) (λ (m : Mark). block.lo ≤ m.block.lo) marks i
+  pub ends : j ≤ length (drop i marks)
   pub end : IsPartitionPoint (λ (m : Mark). m.block.lo ≤ block.hi) (λ (m : Mark). block.hi < m.block.lo) (drop i marks) j
 
 module _ {block : Span} {marks : List Mark} {i j : ℕ} (c : Cuts block marks i j) where
   parts : take i marks ++ (take j (drop i marks) ++ drop j (drop i marks)) ≡ marks
   parts = rw (take-append-drop j (drop i marks)) (take-append-drop i marks)
+
+  pub cuts_inner : AllByRecursion (λ m. (block.lo ≤ m.block.lo) × (m.block.lo ≤ block.hi)) (take j (drop i marks))
+  cuts_inner =
+      both_hold _ _ (take j (drop i marks)) (all_left _ (take j (drop i marks)) (drop j (drop i marks)) (rw (take-append-drop j (drop i marks)) (all_drop _ marks i c.cut.1)))
+      (all_take _ (drop i marks) j c.end.0 c.ends)
 
   pub cuts_same : (known : Option ℕ) (key : ℕ) → is_in_span key block ≡ true → known_in (lesser known (dep (take i marks) block.lo)) (take j (drop i marks)) key ≡ known_in known marks key
   cuts_same known key t =
