@@ -1,5 +1,6 @@
 -- What marks know of the keys of a block, by those that begin in it and those that hold all of it.
 use Rattle.std.proofs.Common.{◌≡◌, ℕ, zero, suc, ◌+◌, ◌-◌, ◌*◌, ◌/◌, ◌%◌, ◌^◌, ◌<◌, ◌≤◌, true, List, [], ◌∷◌, ◌++◌, length, take, drop, Option, Some, None, refl, sym, ap, ◌∙◌, arith, inl, inr, IfSome, MatchOption}
+use Rattle.std.specs.Borrow.{Bor}
 use Rattle.std.specs.List.{AllByRecursion, AllWithin}
 use Rattle.std.specs.List.Sorted.{IsPartitionPoint}
 use Rattle.std.proofs.lemmas.Bool.{cases_lt, and_from, le-leb, lt-leb}
@@ -18,10 +19,18 @@ use Rattle.hy_mark.proofs.Widths.{aligned_less, power_up}
 use Rattle.hy_mark.proofs.Deps.{dep_append}
 use Rattle.hy_mark.proofs.Ordering.{ordered_rest}
 use Rattle.hy_tree.proofs.Bits.{wider_same}
-use Rattle.hy_meld.specs.Known.{known_in, IsKnownFrom}
+use Rattle.hy_meld.specs.Known.{IsKnownFrom}
 use Rattle.hy_meld.specs.Roots.{IsBlockOf}
 use Rattle.hy_meld.proofs.Lookup.{in_span, block_prefix, start_of}
 use Rattle.hy_meld.proofs.Earliest.{dep_past}
+
+-- what is known of a key, by marks and by what is known of the whole block
+abbrev pub known_by : Option ℕ → List Mark → ℕ → Option ℕ
+known_by whole marks key = lesser whole (dep marks key)
+
+-- of each key whose writers are known at all, they are known up to the base at least
+abbrev pub IsFrom : ℕ → Option ℕ → List Mark → Type 0
+IsFrom base whole marks = (key : ℕ) → IfSome (known_by whole marks key) (λ d. base ≤ d)
 
 -- ---- blocks
 
@@ -75,7 +84,7 @@ module _ (block : Span) (is : IsBlock block) (key : ℕ) (low : block.lo ≤ key
   dep_before (m ∷ ms) b a = rw (held m.block b.0 a.0, dep_before ms b.1 a.1) refl
 
   narrowed_at : (before inner behind : List Mark) (known : Option ℕ) → AreBlocks before → AllByRecursion (λ m. m.block.lo < block.lo) before → AllByRecursion (λ m. block.hi < m.block.lo) behind
-      → known_in (lesser known (dep before block.lo)) inner key ≡ known_in known (before ++ (inner ++ behind)) key
+      → known_by (lesser known (dep before block.lo)) inner key ≡ known_by known (before ++ (inner ++ behind)) key
   narrowed_at before inner behind known b a c =
       let rest : dep (inner ++ behind) key ≡ dep inner key = dep_append inner behind key ∙ (rw (dep_past block.hi key behind high c) (lesser_none (dep inner key))) in
       let whole : dep (before ++ (inner ++ behind)) key ≡ lesser (dep before block.lo) (dep inner key) =
@@ -92,7 +101,7 @@ from_both base None b i j = j
 from_both base (Some a) None i j = i
 from_both base (Some a) (Some b) i j = omega arith
 
-narrowed_from : (base lo : ℕ) (before inner behind : List Mark) (known : Option ℕ) → IsKnownFrom base known (before ++ (inner ++ behind)) → IsKnownFrom base (lesser known (dep before lo)) inner
+narrowed_from : (base lo : ℕ) (before inner behind : List Mark) (known : Option ℕ) → IsFrom base known (before ++ (inner ++ behind)) → IsFrom base (lesser known (dep before lo)) inner
 narrowed_from base lo before inner behind known f key =
     let at = from_parts base known _ (f lo) in
     let first = from_parts base (dep before lo) (dep (inner ++ behind) lo) (rw (dep_append before (inner ++ behind) lo) at at.1) in
@@ -101,9 +110,11 @@ narrowed_from base lo before inner behind known f key =
     from_both base _ (dep inner key) (from_both base known (dep before lo) at.0 first.0) part.0
 
 -- with no mark left, all is known up to what is known of the whole block
-pub from_empty : (base : ℕ) (known : Option ℕ) (marks : List Mark) → marks ≡ [] → IsKnownFrom base known marks → MatchOption known ((key : ℕ) → known_in known marks key ≡ None) (λ d. (base ≤ d) × IsKnownFrom d known marks)
-from_empty base None marks e f = λ key. rw e refl
-from_empty base (Some d) marks e f = (rw e at (f 0), λ key. rw e (omega arith))
+module _ (base : ℕ) (marks : Bor (List Mark)) (e : marks.now ≡ []) where
+  pub from_empty : (whole : Option ℕ) → IsKnownFrom base (record { marks = marks; whole = whole })
+      → MatchOption whole ((key : ℕ) → known_by whole marks.now key ≡ None) (λ d. (base ≤ d) × IsKnownFrom d (record { marks = marks; whole = whole }))
+  from_empty None f = λ key. rw e refl
+  from_empty (Some d) f = (rw e at (f.from 0), record { pairs = f.pairs; from = λ key. rw e (omega arith) })
 
 -- ---- cuts
 
@@ -156,12 +167,12 @@ module _ {block : Span} {marks : List Mark} {i j : ℕ} (c : Cuts block marks i 
       both_hold _ _ (take j (drop i marks)) (all_left _ (take j (drop i marks)) (drop j (drop i marks)) (rw (take-append-drop j (drop i marks)) (all_drop _ marks i c.cut.1)))
       (all_take _ (drop i marks) j c.end.0 c.ends)
 
-  pub cuts_same : (known : Option ℕ) (key : ℕ) → is_in_span key block ≡ true → known_in (lesser known (dep (take i marks) block.lo)) (take j (drop i marks)) key ≡ known_in known marks key
+  pub cuts_same : (known : Option ℕ) (key : ℕ) → is_in_span key block ≡ true → known_by (lesser known (dep (take i marks) block.lo)) (take j (drop i marks)) key ≡ known_by known marks key
   cuts_same known key t =
       let within = in_span key block t in
       narrowed_at block c.is key within.0 within.1 (take i marks) (take j (drop i marks)) (drop j (drop i marks)) known (pairs_take i marks c.pairs).each
       (all_take _ marks i c.cut.0 c.within) (all_drop _ (drop i marks) j c.end.1)
-      ∙ ap (λ ms. known_in known ms key) parts
+      ∙ ap (λ ms. known_by known ms key) parts
 
-  pub cuts_from : (base : ℕ) (known : Option ℕ) → IsKnownFrom base known marks → IsKnownFrom base (lesser known (dep (take i marks) block.lo)) (take j (drop i marks))
+  pub cuts_from : (base : ℕ) (known : Option ℕ) → IsFrom base known marks → IsFrom base (lesser known (dep (take i marks) block.lo)) (take j (drop i marks))
   cuts_from base known f = narrowed_from base block.lo (take i marks) (take j (drop i marks)) (drop j (drop i marks)) known (rw parts f)
