@@ -77,7 +77,7 @@ impl Places {
     }
 
     // Sets whom a client wakes. Whom it was to wake before, and hasn't, is woken here.
-    fn set_woken_by(&self, client: u8, first: u8, second: u8) {
+    fn set_wakes(&self, client: u8, first: u8, second: u8) {
         if let Some(place) = self.places.get(usize::from(client)) {
             self.notify_client(place.first.swap(first, Ordering::SeqCst));
             self.notify_client(place.second.swap(second, Ordering::SeqCst));
@@ -86,7 +86,7 @@ impl Places {
 
     /// Wakes whom a client is to wake, once. Each call whose entry has landed does it.
     pub fn pass_on(&self, client: u8) {
-        self.set_woken_by(client, PADS, PADS);
+        self.set_wakes(client, PADS, PADS);
     }
 
     /// Has the clients of a batch wake each other, each two more, so that the leader wakes but one. It answers that one. This
@@ -107,7 +107,7 @@ impl Places {
             if client != PADS {
                 let first = client_at(&batch, behind);
                 let second = client_at(&batch, behind.saturating_add(1));
-                self.set_woken_by(client, first, second);
+                self.set_wakes(client, first, second);
             }
             behind = behind.saturating_add(2);
         }
