@@ -14,7 +14,7 @@ use std::alloc::{AllocError, Global};
 /// What the words ask for, by the command that the word after the program's name is.
 ///
 /// `Usage`: they ask for nothing that the program does. Words that are a line never are refused so.
-/// `Memory`: memory was wanting.
+/// `Memory`: out of memory.
 pub fn parse(alloc: Global, words: &Words) -> Result<Line, CliError>
     ensures obeyed { (l : Line) → line_of words.now ≡ Some l → MatchResult result (λ r. r ≡ l) (λ e. e ≡ CliError.Memory) }
     ensures unknown { names_command words.now ≡ false → IsErr result }

@@ -46,7 +46,7 @@ pub struct Run<D: Disk> {
 pub enum Cause {
     /// The log's device failed. The log is stopped.
     Device,
-    /// Memory was wanting.
+    /// Out of memory.
     Memory,
 }
 
@@ -181,7 +181,7 @@ fn run_on<D: Disk + Send, R: Threads + Wait + Sync, G: Gate + Sync>(
 /// `start` is where rolling goes on from. Where it stands for the log's first entries the run is one of the script, with its
 /// replies; what the log then holds is told in any case.
 ///
-/// `Device`: the log's device failed, and the log is stopped. `Memory`: memory was wanting. Either hands back the log, which
+/// `Device`: the log's device failed, and the log is stopped. `Memory`: out of memory. Either hands back the log, which
 /// has all that was found and appended.
 pub fn run_clients<D: Disk + Send, R: Threads + Wait + Sync, G: Gate + Sync>(
     rt: &R,

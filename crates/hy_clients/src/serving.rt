@@ -28,7 +28,7 @@ use std::alloc::{AllocError, AllocFailed};
 use std::sync::Wait;
 use std::thread::Threads;
 
-/// The clients can't go on: the log is stopped, or memory was wanting.
+/// The clients can't go on: the log is stopped, or memory ran out.
 #[derive(Clone, Copy)]
 pub(crate) struct Cut;
 

@@ -54,7 +54,7 @@ pub enum RunError {
     /// The event at this place, from 0, may not happen in its turn. Those before it have happened.
     #[error("event {index} may not happen")]
     NotEnabled { index: usize },
-    /// Some of the first events have happened.
+    /// Out of memory. Some of the first events have happened.
     #[error("out of memory")]
     Memory,
 }
@@ -71,7 +71,7 @@ impl From<AllocError> for StepError {
 }
 
 impl Core {
-    /// The state in which a run of the script opens. `AllocError` where memory is wanting.
+    /// The state in which a run of the script opens. `AllocError` where memory runs out.
     pub fn new(alloc: Global, script: Script) -> Result<Core, AllocError>
         ensures { IfOk result (λ core. core ≡ opened_course script) }
     {
@@ -188,7 +188,7 @@ impl Core {
         Ok(())
     }
 
-    /// The replies to all programs of all clients. `AllocError` where memory is wanting.
+    /// The replies to all programs of all clients. `AllocError` where memory runs out.
     pub fn outcomes(&self, alloc: Global) -> Result<Items<Replies>, AllocError>
         requires finished { is_finished self.now.script self.now.state ≡ true }
         ensures { IfOk result (λ replies. replies ≡ (results_at self.now.script self.now.ended self.now.state).replies) }

@@ -143,7 +143,7 @@ pub trait Tuned: Disk {
     /// room ends before it, and one call of the room is for the one that fails. A device on which other calls fail has no
     /// room, and gets none.
     ///
-    /// Want of memory leaves the device with the room that it had, or more.
+    /// Running out of memory leaves the device with the room that it had, or more.
     fn room(&mut self, bytes: usize, calls: usize) -> Result<(), AllocError>
         ensures room { OnOk result (IsUnarmed (Self.Disk.strikes self.old) → Self.Disk.has_room self.old 0 0 → Self.Disk.has_room self.new calls bytes) }
         ensures before { OnOk result ((k : ℕ) → Self.Disk.strikes self.old (k + 1) → Self.Disk.has_room self.old 0 0 → Self.Disk.has_room self.new (min (calls - 1) k) bytes) }

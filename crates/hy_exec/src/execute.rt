@@ -21,7 +21,7 @@ pub struct Executed {
 impl Txn {
     /// The answer to a command, by the call of its name.
     ///
-    /// `AllocError`: memory was wanting, and the transaction is as before.
+    /// `AllocError`: out of memory, and the transaction is as before.
     pub fn perform(&mut self, command: &Command) -> Result<Answer, AllocError>
         requires few { HoldsFew (perform self.old.pairs self.old.effects command.now).1 }
         requires command { IsCommand command.now }
@@ -41,7 +41,7 @@ impl Txn {
 
 /// Runs a program of a client on a server, on the tree of its snapshot at a position.
 ///
-/// `AllocError`: memory was wanting, and nothing is left of the program.
+/// `AllocError`: out of memory, and nothing is left of the program.
 pub fn run_program(
     alloc: Global,
     program: &Program,

@@ -58,7 +58,7 @@ impl Txn {
 
     /// Reads a key: `Live` with its value, or `Absent`.
     ///
-    /// `AllocError`: memory was wanting, and the transaction is as before.
+    /// `AllocError`: out of memory, and the transaction is as before.
     pub fn get(&mut self, key: Key) -> Result<Answer, AllocError>
         requires { HoldsFew (perform self.old.pairs self.old.effects (Get key)).1 }
         ensures answer { IfOk result (λ a. a ≡ (perform self.old.pairs self.old.effects (Get key)).0) }
@@ -72,7 +72,7 @@ impl Txn {
 
     /// Gives a key a value: `Well`.
     ///
-    /// `AllocError`: memory was wanting, and the transaction is as before.
+    /// `AllocError`: out of memory, and the transaction is as before.
     pub fn put(&mut self, key: Key, value: Value) -> Result<Answer, AllocError>
         requires { HoldsFew (perform self.old.pairs self.old.effects (Put key value)).1 }
         ensures answer { IfOk result (λ a. a ≡ (perform self.old.pairs self.old.effects (Put key value)).0) }
@@ -85,7 +85,7 @@ impl Txn {
 
     /// Deletes a key, also where it isn't there: `Well`.
     ///
-    /// `AllocError`: memory was wanting, and the transaction is as before.
+    /// `AllocError`: out of memory, and the transaction is as before.
     pub fn del(&mut self, key: Key) -> Result<Answer, AllocError>
         requires { HoldsFew (perform self.old.pairs self.old.effects (Del key)).1 }
         ensures answer { IfOk result (λ a. a ≡ (perform self.old.pairs self.old.effects (Del key)).0) }
@@ -100,7 +100,7 @@ impl Txn {
     /// `NotNumber` where the value isn't the spelling of a number below 2^64, `TooBig` where the sum isn't below it;
     /// then the key was read, and nothing is written.
     ///
-    /// `AllocError`: memory was wanting, and the transaction is as before.
+    /// `AllocError`: out of memory, and the transaction is as before.
     pub fn add(&mut self, key: Key, n: u64) -> Result<Answer, AllocError>
         requires { HoldsFew (perform self.old.pairs self.old.effects (Add key n)).1 }
         ensures answer { IfOk result (λ a. a ≡ (perform self.old.pairs self.old.effects (Add key n)).0) }
@@ -115,7 +115,7 @@ impl Txn {
     /// Reads the first `n` (at least 1) live pairs from `lo` to `hi`, own writes applied: `Pairs`. The span that was read ends
     /// at the last key given where all `n` came, and else at `hi`.
     ///
-    /// `AllocError`: memory was wanting, and the transaction is as before.
+    /// `AllocError`: out of memory, and the transaction is as before.
     pub fn scan(&mut self, lo: Key, hi: Key, n: u16) -> Result<Answer, AllocError>
         requires few { HoldsFew (perform self.old.pairs self.old.effects (Scan lo hi n)).1 }
         requires span { lo ≤ hi }

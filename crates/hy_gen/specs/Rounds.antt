@@ -1,6 +1,7 @@
 -- The schedule of a load goes in rounds, from 0. A program on server 1 takes one round, on server 2 two, on server 3 four, and on server 4 eight:
--- it begin_events in the first of them and ends in the last, and the client's next program begin_events in the round after that.
--- At the end of each round the last group is completed, and each server on which programs ended publishes the log.
+-- it begins in the first of them and ends in the last, and the client's next program begins in the round after that.
+-- At the end of each round the last group is completed, and each server for which it is the last round of a program's time, also where it has none left,
+-- publishes the log, if that grew since the first of these rounds.
 use Rattle.std.specs.Prelude.{ℕ, zero, suc, sum_by, ◌+◌, ◌-◌, ◌*◌, ◌/◌, ◌%◌, ◌^◌, max, Bool, true, false, ◌&&◌, List, [], ◌∷◌, ◌++◌, Option, Some, None, slice_get, length, nat_lt, ◌==◌, if◌then◌else◌}
 use Rattle.std.specs.List.{range_with_len, flat_map}
 use Rattle.hy_base.specs.declared.workload.Event.{Event}
@@ -24,7 +25,7 @@ is_first server round = round % period server == 0
 abbrev pub is_last : ℕ → ℕ → Bool
 is_last server round = (round + 1) % period server == 0
 
--- whether a client begin_events a program in a round, of so many
+-- whether a client begins a program in a round, of so many
 abbrev pub is_beginning : ℕ → ℕ → ℕ → Bool
 is_beginning size round client = is_first (home client) round && nat_lt (number_in client round) size
 

@@ -1,7 +1,7 @@
 //! Scripts and schedules that are made from two numbers.
 //!
 //! It promises to the crates above: [`generate`] gives exactly the script and the schedule that `specs/` define, over the
-//! words of the generator XSH RR 64/32 of PCG. It takes time and memory in proportion to the size.
+//! words of the generator XSH RR 64/32 of PCG.
 #![tactic(auto)]
 
 mod drawing;

@@ -26,7 +26,7 @@ fn number_in(client: u8, round: u32) -> u32
     8 * (round / period(home(client))) + u32::from(client - 1)
 }
 
-// Whether a client begin_events a program in a round.
+// Whether a client begins a program in a round.
 fn is_beginning(size: usize, round: u32, client: u8) -> bool
     requires client { IsWithin 1 8 client }
     requires round { round ≤ 100000 }

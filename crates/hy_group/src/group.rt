@@ -56,7 +56,7 @@ impl Group {
     }
 
     /// A member joins, unless the members that joined write a key past what its marks know of it. `AllocError` where
-    /// memory is wanting. The group is as it was where the member did not join.
+    /// memory runs out. The group is as it was where the member did not join.
     pub fn join(&mut self, alloc: Global, marks: Marks) -> Result<Join, AllocError>
         ensures decided { IfOk result (λ join. IsJoin self.old marks join self.new) }
         ensures member { IfOk result (λ join. IsMemberJoin self.old marks join self.new) }

@@ -18,7 +18,7 @@ mod std_streams;
 mod sure;
 mod whole;
 
-pub use hy_base::Failed;
+use hy_base::Failed;
 pub use memory::{MemSink, MemSource};
 pub use std_streams::{StdSink, StdSource};
 pub use sure::{SureSink, SureSource};

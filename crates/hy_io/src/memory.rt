@@ -20,7 +20,7 @@ pub struct MemSource {
 impl MemSource {
     ghost use Rattle.hy_io.specs.Memory.{source_left, source_plan};
 
-    /// A source of these bytes. Want of memory is the one error.
+    /// A source of these bytes. Out of memory is the one error.
     pub fn new(
         alloc: Global,
         bytes: &[u8],
@@ -75,7 +75,7 @@ pub struct MemSink {
 impl MemSink {
     ghost use Rattle.hy_io.specs.Memory.{sink_plan, sink_room, sink_taken};
 
-    /// A sink with room for so many bytes, which is taken from memory now. Want of memory is the one error.
+    /// A sink with room for so many bytes, which is taken from memory now. Out of memory is the one error.
     pub fn new(
         alloc: Global,
         room: usize,

@@ -14,7 +14,7 @@ pub struct SureSource {
 impl SureSource {
     ghost use Rattle.hy_io.specs.Memory.{sure_left};
 
-    /// A source of these bytes. Want of memory is the one error.
+    /// A source of these bytes. Out of memory is the one error.
     pub fn new(alloc: Global, bytes: &[u8]) -> Result<SureSource, AllocError>
         ensures { IfOk result (λ source. sure_left source ≡ bytes.now) }
     {

@@ -47,7 +47,8 @@ pub fn read_all<S: Source>(
     ensures whole { IfOk result (λ bytes. Consumes (S.left source.old) (S.left source.new) bytes.items × IsAtEnd (S.left source.new)) }
     ensures short { IfOk result (λ bytes. length bytes.items ≤ limit) }
 
-    // Too long exactly where more bytes came than the limit. One more than the limit is gone then.
+    // Too long only where the source has more bytes than the limit, and such a source is never answered Ok. One byte more than
+    // the limit is gone then.
     ensures long_only { result ≡ Err ReadAllError.TooLong → IfSome (S.left source.old) (λ left. limit < length left) }
     ensures long_always { IfSome (S.left source.old) (λ left. limit < length left → IsErr result) }
     ensures one_more { result ≡ Err ReadAllError.TooLong → GivesExactly (S.left source.old) (S.left source.new) (limit + 1) }

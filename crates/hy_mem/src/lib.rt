@@ -3,8 +3,7 @@
 //! It promises to the crates above: a [`MemDisk`] meets the traits `Disk` and `Tuned`, with content that is told. Its calls
 //! fail exactly as planned: by their numbers, from an ordered failure on, and past the room. A write that finds room is
 //! done also where it fails, and isn't synced. `stop` gives exactly the bytes that a crash leaves by one of three
-//! patterns, and they are an image of that moment. A write costs its own bytes, and a sync what was written since the
-//! last one. Only making a device and `room` take memory.
+//! patterns, and they are an image of that moment. Only making a device and `room` take memory.
 #![tactic(auto)]
 
 mod buffers;

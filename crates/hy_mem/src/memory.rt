@@ -47,7 +47,7 @@ impl MemDisk {
     }
 
     /// A device with these bytes, all of them synced, and without room. It passes so many calls, and then fails every call.
-    /// Want of memory is the one error.
+    /// Out of memory is the one error.
     pub fn fused(alloc: Global, bytes: &[u8], calls: u64) -> Result<MemDisk, AllocError>
         ensures content { IfOk result (λ disk. content_of disk ≡ settled bytes.now) }
         ensures plan { IfOk result (λ disk. plan_of disk ≡ fresh_device_plan [] (Some calls)) }
@@ -217,7 +217,7 @@ impl Disk for MemDisk {
 impl Tuned for MemDisk {
     ghost use Rattle.hy_mem.specs.MemDisk.{content_of, plan_of, room_of, moment_of, left_since_of, HasRoom, Strikes};
 
-    /// The room grows to exactly so much, where it was less. Want of memory leaves it as it was.
+    /// The room grows to exactly so much, where it was less. Running out of memory leaves it as it was.
     fn room(&mut self, bytes: usize, calls: usize) -> Result<(), AllocError>
         ensures room_left { room_of self.new ≡ (if is_ok result then widened calls bytes (room_of self.old) else room_of self.old) }
         ensures before { OnOk result ((k : ℕ) → Strikes self.old (k + 1) → HasRoom self.old 0 0 → HasRoom self.new (min (calls - 1) k) bytes) }

@@ -15,7 +15,7 @@ use hy_mem::MemDisk;
 use hy_pages::pages_of;
 use std::alloc::{AllocError, Global};
 
-/// Makes the places and the room for a body that is appended so many times. Where memory is wanting the log is as before.
+/// Makes the places and the room for a body that is appended so many times. Where memory runs out the log is as before.
 pub fn make_ready(log: &mut PageLog<MemDisk>, body: &[u8], count: usize) -> Result<(), AllocError>
     requires body { IsBody body.now }
     requires few { count ≤ 8 }
@@ -56,7 +56,7 @@ pub fn put_all(log: &mut PageLog<MemDisk>, body: &[u8], count: usize)
     }
 }
 
-// The log, where it was opened. A device that doesn't fail is refused for want of memory alone.
+// The log, where it was opened. A device that doesn't fail is refused only where memory runs out.
 fn opened(
     answer: Result<PageLog<MemDisk>, RefusedLog<MemDisk>>,
 ) -> Result<PageLog<MemDisk>, AllocError>

@@ -2,7 +2,7 @@
 ghost use Rattle.std.specs.Prelude.{◌≡◌, ◌+◌, ◌≤◌, ◌-◌, IfOk, Result, Ok, length};
 ghost use Rattle.hy_base.specs.Rows.{IsOrdered};
 ghost use Rattle.hy_base.specs.Shape.{IsGoodShape};
-ghost use Rattle.hy_formats.specs.LogFormat.{are_zeros, byte_at};
+ghost use Rattle.hy_formats.specs.LogFormat.{are_zeros, byte_at, open_gate};
 ghost use Rattle.hy_formats.specs.Checkpoint.{Checkpoint, IsCheckpoint};
 ghost use Rattle.hy_formats.specs.PointFormat.{point_record_size, body_len_in, whole_point_body, point_placed, filled_in, point_in};
 ghost use Rattle.hy_formats.specs.declared.damage.BadPoint.{BadPoint};
@@ -120,11 +120,11 @@ fn point_from(
 /// The point with whose record the bytes begin, which is one of a log of this shape. What follows the record is free.
 ///
 /// `BadPoint`: the first field, from the left, that is out of its range or order, that its record or the bytes end within,
-/// or the first byte too many in the body, or behind the body the zeros that aren't. `Memory`: memory was wanting.
+/// or the first byte too many in the body, or behind the body the zeros that aren't. `Memory`: out of memory.
 pub fn decode_point(alloc: Global, bytes: &[u8], shape: Shape) -> Result<Point, PointError>
     requires good { IsGoodShape shape }
     requires page { 256 ≤ length bytes.now }
-    requires gate { byte_at bytes.now 0 ≡ 71 }
+    requires gate { byte_at bytes.now 0 ≡ open_gate }
     ensures exact { DecodesPoint result (point_in shape bytes.now) }
     ensures found { IfOk result (λ point. BeginsWith shape point bytes.now) }
     ensures only { (c : Checkpoint) → BeginsWith shape c bytes.now → DecodesPoint result (Ok c) }

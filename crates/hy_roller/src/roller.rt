@@ -80,7 +80,7 @@ fn window_start(shape: Shape, groups: u32) -> Pos
 }
 
 impl Roller {
-    /// Before the first group of a log of a shape. `AllocError` where memory is wanting.
+    /// Before the first group of a log of a shape. `AllocError` where memory runs out.
     pub fn new(alloc: Global, shape: Shape) -> Result<Roller, AllocError>
         requires good { IsGoodShape shape }
         ensures { IfOk result (λ r. r ≡ new_roll shape) }
@@ -100,7 +100,7 @@ impl Roller {
     }
 
     /// At the end `pos` of some whole groups, from the rows at the premeld base of the next group, the entries past that base
-    /// up to `pos`, and which of these committed. It keeps verdicts past `pos` alone. `AllocError` where memory is wanting.
+    /// up to `pos`, and which of these committed. It keeps verdicts past `pos` alone. `AllocError` where memory runs out.
     pub fn resume(
         alloc: Global,
         shape: Shape,
@@ -168,7 +168,7 @@ impl Roller {
         &self.tree
     }
 
-    /// One more of the same; what is large is shared. `AllocError` where memory is wanting.
+    /// One more of the same; what is large is shared. `AllocError` where memory runs out.
     pub fn share(&self) -> Result<Roller, AllocError>
         ensures { IfOk result (λ r. r ≡ self.now) }
     {
@@ -188,7 +188,7 @@ impl Roller {
         })
     }
 
-    /// So many more of the same. `AllocError` where memory is wanting.
+    /// So many more of the same. `AllocError` where memory runs out.
     pub fn share_times(&self, alloc: Global, count: u8) -> Result<Vec<Roller>, AllocError>
         ensures { IfOk result (λ rollers. rollers.items ≡ replicate count self.now) }
     {
@@ -270,7 +270,7 @@ impl Roller {
 
     /// Further by some groups, which were rolled: `groups` are rolled then, the rows then are `tree`, those at the premeld base of
     /// the next group `base_tree`, and those before its window `kept`. `verdicts` are those of the new groups. `AllocError` where
-    /// memory is wanting.
+    /// memory runs out.
     pub fn rolled_to(
         &self,
         alloc: Global,

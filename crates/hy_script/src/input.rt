@@ -53,7 +53,7 @@ fn numbers_of(alloc: Global, lines: &[EventLine]) -> Result<Items<u32>, AllocErr
 
 /// The script that the bytes spell and, where `sim` is true and the line `schedule` came, the events of its schedule.
 /// `Refused` names the first line that is not in the grammar, and the first cause against it; `Memory` comes where
-/// memory was wanting.
+/// memory ran out.
 pub fn read_input(alloc: Global, bytes: &[u8], sim: bool) -> Result<Input, ReadError>
     ensures exact { Reads (λ input. input) result (read_input bytes.now sim) }
     ensures script { IfOk result (λ input. IsScriptSpellable input.script) }

@@ -13,7 +13,7 @@ use std::alloc::Global;
 
 /// The events of the schedule that the bytes spell, each with the number of its line; the first of the bytes' lines has
 /// the number that is given. `Refused` names the first line that is no event of the script, and the first cause against
-/// it; `Memory` comes where memory was wanting.
+/// it; `Memory` comes where memory ran out.
 pub fn read_schedule(
     alloc: Global,
     bytes: &[u8],

@@ -35,7 +35,7 @@ fn finish(number: u32, place: Place) -> Result<Reading, ReadError>
 
 /// The script that the bytes spell. Where `sim` is true and the line `schedule` came, it tells where the schedule begins,
 /// and the lines after it are not looked at; where `sim` is false that line is refused. `Refused` names the first line
-/// that is not in the grammar, and the first cause against it; `Memory` comes where memory was wanting.
+/// that is not in the grammar, and the first cause against it; `Memory` comes where memory ran out.
 pub fn read_script(alloc: Global, bytes: &[u8], sim: bool) -> Result<Reading, ReadError>
     ensures exact { Reads (λ reading. reading) result (read_script bytes.now sim) }
     ensures spellable { IfOk result (λ reading. IsScriptSpellable reading.script) }

@@ -1,9 +1,8 @@
 //! The texts that `hyder` prints, byte for byte.
 //!
 //! It promises to the crate above: the trace of a run's events, the report of its results, the dump of a log, what
-//! became of its entries and the summary of a load are exactly the texts that the rules define, and so is the one line of a
-//! call that failed. Time is linear in what is written. It refuses only where it is out of memory, and the lines for usage,
-//! source and memory take none.
+//! became of its entries and the summary of a load are exactly the texts that `hy_formats` defines, and so is the one line
+//! of a call that failed. It refuses only where it is out of memory, and the lines for usage, source and memory take none.
 #![tactic(auto)]
 
 mod log_texts;

@@ -1,6 +1,6 @@
 //! The texts on a log: its dump, what became of its entries, and the one line where the log or its device failed.
 //!
-//! Each `put` function adds its text to what was written before. Where memory is wanting, a part of it may have been added.
+//! Each `put` function adds its text to what was written before. Where memory runs out, a part of it may have been added.
 ghost use Rattle.std.specs.Prelude.{◌≡◌, ◌∷◌, ◌+◌, ◌-◌, ◌++◌, [], length, codes, decimal, flat_map, IfOk, OnOk};
 ghost use Rattle.std.specs.List.{enumerate_from};
 ghost use Rattle.hy_base.specs.Spelling.{line};

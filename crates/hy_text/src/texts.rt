@@ -1,6 +1,6 @@
 //! The texts that are printed: a trace, a report, and the one line of a call that failed.
 //!
-//! Each `put` function adds its text to what was written before. Where memory is wanting, a part of it may have been added.
+//! Each `put` function adds its text to what was written before. Where memory runs out, a part of it may have been added.
 ghost use Rattle.std.specs.Prelude.{◌≡◌, ◌∷◌, ◌++◌, [], codes, decimal, flat_map, map, unwrap_or, IfOk, OnOk};
 ghost use Rattle.std.specs.List.{enumerate_from};
 ghost use Rattle.hy_base.specs.Spelling.{event_words, line};

@@ -234,7 +234,7 @@ impl Tree {
     }
 
     /// The tree of the rows of both. The keys on both sides are alike above the highest bit in which they differ, and the
-    /// right ones have that bit. `AllocError` where memory is wanting, or there would be 2^64 rows.
+    /// right ones have that bit. `AllocError` where memory runs out, or there would be 2^64 rows.
     pub fn fork(alloc: Global, left: Tree, right: Tree) -> Result<Tree, AllocError>
         requires { CanFork left right }
         ensures { IfOk result (λ t. t ≡ left ++ right) }
@@ -310,7 +310,7 @@ impl Tree {
     }
 
     /// The tree after a write, or after a deletion where there is no value. It copies the path to the key, shares all the
-    /// rest, and keeps the value that it is given. `AllocError` where memory is wanting, or there would be 2^64 rows.
+    /// rest, and keeps the value that it is given. `AllocError` where memory runs out, or there would be 2^64 rows.
     pub fn put(
         &self,
         alloc: Global,

@@ -7,7 +7,7 @@
 //! generated script and writes its summary. The status is 0 where all of that text is written, 1 for a fault of usage, 2 for
 //! a script that is refused, 3 and 4 where the input or the output fails, 5 where a file fails, 6 for a log that is refused,
 //! 7 for one of another shape, 8 for a saved point that is refused or is further than the log, and 9 where it is out of
-//! memory; all but 0 and 4 have one line. Nothing goes to the standard error.
+//! memory; all but 0, 4, and a 9 while the words are read have one line. Nothing goes to the standard error.
 #![tactic(auto)]
 
 ghost use Rattle.std.specs.Prelude.{◌≡◌, ℕ, IfOk, map, string_bytes};

@@ -1,5 +1,5 @@
 //! The calls that the tests make of a log, without clauses, so that a test holds few facts. What a call requires of a body, of
-//! the batch and of memory is seen to as it runs: `None` where that is wanting.
+//! the batch and of memory is seen to as it runs: `None` where that isn't given.
 ghost use Rattle.std.specs.Prelude.{◌≡◌, ◌≤◌, length, IfOk, IfSome};
 ghost use Rattle.hy_base.specs.Shape.{IsGoodShape};
 ghost use Rattle.hy_formats.specs.LogFormat.{longest_body};
@@ -151,7 +151,7 @@ pub fn flush<D: Disk>(log: &mut PageLog<D>) -> Option<Result<Pos, Failed>> {
     Some(log.flush())
 }
 
-// Zeros, in number the most bytes of a body, 18,634. `AllocError` where memory is wanting.
+// Zeros, in number the most bytes of a body, 18,634. `AllocError` where memory runs out.
 fn body_buffer(alloc: Global) -> Result<Vec<u8>, AllocError>
     ensures { IfOk result (λ bytes. length bytes.items ≡ longest_body) }
 {

@@ -16,7 +16,7 @@ use std::thread::Threads;
 
 pub const RUN: &[&str] = &["run"];
 
-/// A device with these bytes, all of them synced, and with room for 200 writes and syncs of 65,536 bytes. Want of memory is
+/// A device with these bytes, all of them synced, and with room for 200 writes and syncs of 65,536 bytes. Out of memory is
 /// the one error.
 pub fn roomy(alloc: Global, bytes: &[u8]) -> Result<MemDisk, AllocError>
     ensures content { IfOk result (λ disk. content_of disk ≡ settled bytes.now) }

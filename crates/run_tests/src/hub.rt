@@ -82,7 +82,7 @@ fn start(alloc: Global, shape: Shape) -> Result<Trial<MemDisk>, Fail>
     hub_on(alloc, shape, log)
 }
 
-// A put of a byte at key 1 by a client of the server with its number. None where memory is wanting.
+// A put of a byte at key 1 by a client of the server with its number. None where memory runs out.
 fn put(alloc: Global, client: u8, snap: Pos, byte: u8) -> Option<Entry>
     requires { IsWithin 1 2 client }
     ensures { IfSome result (IsPutOf client) }
@@ -330,7 +330,7 @@ impl Bench {
         self.hub.verdict(rt, &mut self.pass, server, pos)
     }
 
-    // Not where memory is wanting.
+    // Not where memory runs out.
     fn has_trace<R: Wait>(&mut self, rt: &R, wanted: &[Event]) -> bool {
         match self.hub.trace(rt, &mut self.pass) {
             Ok(trace) => trace.as_slice() == wanted,
@@ -554,7 +554,7 @@ fn run_errand<D: Disk, R: Threads + Wait + Sync>(
     errand.done = ran.is_some();
 }
 
-// Runs the errands beside each other, on two threads.
+// Runs the errands concurrently, on two threads.
 fn run_errands<D: Disk + Send, R: Threads + Wait + Sync>(
     rt: &R,
     alloc: Global,
@@ -602,7 +602,7 @@ fn join_last<D: Disk>(
     }
 }
 
-// Both clients beside each other, each with a pass of its own.
+// Both clients concurrently, each with a pass of its own.
 fn run_beside<R: Threads + Wait + Sync>(rt: &R, alloc: Global) -> Result<Events, Fail> {
     let (hub, mut pass) = start(alloc, SHAPE)?;
     let one = Errand {
