@@ -1,5 +1,5 @@
 //! What the words of a line ask for. Each law is the contract of a function that does nothing.
-ghost use Rattle.hy_cli.specs.Laws.{LineAsksForItself, WordsAskForOne};
+ghost use Rattle.hy_cli.specs.CommandLaws.{LineAsksForItself, WordsAskForOne};
 
 /// Words that are a line ask for just that line.
 pub fn line_asks_for_itself()

@@ -7,7 +7,7 @@ ghost use Rattle.hy_base.specs.Limits.{IsThreadCount};
 ghost use Rattle.hy_rules.specs.Runs.{program_of};
 ghost use Rattle.hy_rolling.specs.Rolling.{rolled_upto, roll_on};
 ghost use Rattle.hy_hub.specs.Calls.{IsEntryOf, IsRollable, IsRollerOf, len_of};
-ghost use Rattle.hy_hub.specs.Laws.{IsPadded, IsPublished};
+ghost use Rattle.hy_hub.specs.HubLaws.{IsPadded, IsPublished};
 ghost use Rattle.hy_clients.specs.Services.{IsPassOf, IsServerOf, IsClientOf};
 ghost use Rattle.hy_clients.specs.Passing.{GoesOn, own_turns};
 ghost use Rattle.hy_clients.specs.Programs.{AreServed};

@@ -16,7 +16,7 @@ use Rattle.hy_rules.specs.Exec.{exec}
 use Rattle.hy_rules.specs.Moves.{State, client_passes}
 use Rattle.hy_rules.specs.Runs.{setting_of, pending, execution, snap_of}
 use Rattle.hy_core.specs.declared.parts.ClientState.{ClientState}
-use Rattle.hy_core.specs.Parts.{IsClientState, AreClientStates}
+use Rattle.hy_core.specs.CoreParts.{IsClientState, AreClientStates}
 
 -- the client at a client_state
 pub record KeptClient (script : Workload) (log : List EntryKind) (number : ℕ) (cs : List Client) (k : ℕ) (x : ClientState) : Type 0 where

@@ -14,7 +14,7 @@ use Rattle.hy_base.proofs.NthLemmas.{nth_within, map_change, length_change, all_
 use Rattle.hy_rolling.specs.Rolling.{Roll, rolled_upto, roll_on}
 use Rattle.hy_rules.specs.Moves.{State, board_of, is_declared, ends_whole_group}
 use Rattle.hy_rules.specs.Runs.{setting_of, may_happen}
-use Rattle.hy_core.specs.Parts.{Holding, IsHolding, IsServerBoard, StepsTo, entries_between, furthest, state_in_course, done_of}
+use Rattle.hy_core.specs.CoreParts.{Holding, IsHolding, IsServerBoard, StepsTo, entries_between, furthest, state_in_course, done_of}
 use Rattle.hy_core.proofs.Beginning.{board_is}
 use Rattle.hy_core.proofs.Publishing.{WholeGroups, all_change, between_groups, between_length, server_is}
 use Rattle.hy_core.proofs.Rerolls.{RolledBoard, rolled_board}

@@ -27,7 +27,7 @@ use Rattle.hy_core.specs.declared.running.Running.{Running}
 use Rattle.hy_core.specs.declared.parts.ClientState.{ClientState}
 use Rattle.hy_core.specs.declared.parts.EndedProgram.{EndedProgram}
 use Rattle.hy_roller.specs.declared.ended.ProgramEnd.TheVariants.{EntryAt}
-use Rattle.hy_core.specs.Parts.{Holding, ClientStateFits, IsHolding, IsOnDevice, BegunClientState, StepsTo, leaving, told_in_course, IsClientState, IsStepAnswered, AreClientStates, AreRestarted, abandoned_client_state, abandoned_told, all_abandoned, departed, kept_by, pages_with, state_in_course, done_of, ended_in_course}
+use Rattle.hy_core.specs.CoreParts.{Holding, ClientStateFits, IsHolding, IsOnDevice, BegunClientState, StepsTo, leaving, told_in_course, IsClientState, IsStepAnswered, AreClientStates, AreRestarted, abandoned_client_state, abandoned_told, all_abandoned, departed, kept_by, pages_with, state_in_course, done_of, ended_in_course}
 use Rattle.hy_core.specs.Replies.{HasFewPrograms}
 use Rattle.hy_core.proofs.Leaving.{left_client_state, still_whole, begun_of, told_is, done_is, ended_is, sessions_are}
 use Rattle.hy_core.proofs.ClientStateLemmas.{client_state_changes}

@@ -17,7 +17,7 @@ use Rattle.hy_memlog.specs.Pages.{Pages, broken_log}
 use Rattle.hy_core.specs.declared.running.Running.{Running}
 use Rattle.hy_core.specs.declared.parts.ClientState.{ClientState}
 use Rattle.hy_core.specs.declared.parts.EndedProgram.{EndedProgram}
-use Rattle.hy_core.specs.Parts.{Holding, ClientStateFits, departed, IsHolding, IsBegunAt, BegunClientState, LeavesEntry, NextFits, Leaves, HasRestarted, AreRestarted, StepsTo, left_entry, kept_by, struck, broken, state_in_course, abandoned_client_state, all_abandoned}
+use Rattle.hy_core.specs.CoreParts.{Holding, ClientStateFits, departed, IsHolding, IsBegunAt, BegunClientState, LeavesEntry, NextFits, Leaves, HasRestarted, AreRestarted, StepsTo, left_entry, kept_by, struck, broken, state_in_course, abandoned_client_state, all_abandoned}
 use Rattle.hy_core.proofs.Leaving.{LeftEntry, left_entry_is}
 use Rattle.hy_core.proofs.LogGrowth.{lawful_kept}
 use Rattle.hy_core.proofs.Ending.{begun_at, append_begun, leaves_entry, next_fits}

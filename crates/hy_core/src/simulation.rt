@@ -28,7 +28,7 @@ pub struct Core {
 
 impl Model for Core {
     ghost use Rattle.hy_core.specs.Course.{Course};
-    ghost use Rattle.hy_core.specs.Parts.{IsCore, course_of, log_held};
+    ghost use Rattle.hy_core.specs.CoreParts.{IsCore, course_of, log_held};
 
     ghost Value = { Course };
 

@@ -10,7 +10,7 @@ use Rattle.hy_base.specs.declared.workload.Command.TheVariants.{Get, Put, Del, A
 use Rattle.hy_base.specs.Lists.{put}
 use Rattle.hy_base.specs.Entry.{span_before, write_before}
 use Rattle.hy_rules.specs.Exec.{Effects, own_write, perform, read_span, scanned, seen, sum_at, with_point, with_sum, with_write}
-use Rattle.hy_exec.specs.Running.{EachAddsOne, NotesAtMost, HoldsFew}
+use Rattle.hy_exec.specs.Executing.{EachAddsOne, NotesAtMost, HoldsFew}
 use Rattle.hy_rules.proofs.Rising.{length-put}
 
 more_point : (n key : ℕ) (e : Effects) (b : Bool) → NotesAtMost n e → NotesAtMost (n + 1) (if b then e else record e { points = put nat_lt key e.points })

@@ -5,7 +5,7 @@ ghost use Rattle.hy_base.specs.Limits.{IsClientNumber, IsServerNumber};
 ghost use Rattle.hy_base.specs.declared.record.EntryKind.TheVariants.{Txn};
 ghost use Rattle.hy_rules.specs.Exec.{no_effects, own_write, with_point, with_span, with_write, intention};
 ghost use Rattle.hy_rules.specs.EffectLaws.{AreInOrder};
-ghost use Rattle.hy_exec.specs.Running.{HoldsFew, notes_write};
+ghost use Rattle.hy_exec.specs.Executing.{HoldsFew, notes_write};
 
 use crate::order::put;
 use hy_base::{Entry, Intention, Items, Key, Pos, Span, Value, Write};

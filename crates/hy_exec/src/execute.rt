@@ -4,7 +4,7 @@ ghost use Rattle.hy_base.specs.Limits.{IsClientNumber, IsServerNumber};
 ghost use Rattle.hy_base.specs.Script.{IsCommand, IsProgram};
 ghost use Rattle.hy_rules.specs.History.{pairs_of};
 ghost use Rattle.hy_rules.specs.Exec.{exec, perform};
-ghost use Rattle.hy_exec.specs.Running.{HoldsFew, finish_of, with_effects};
+ghost use Rattle.hy_exec.specs.Executing.{HoldsFew, finish_of, with_effects};
 
 use crate::txn::{Finished, Txn};
 use hy_base::{Answer, Answers, Command, Items, Pos, Program};

@@ -4,7 +4,7 @@ ghost use Rattle.hy_base.specs.Limits.{IsClientNumber, IsServerNumber};
 ghost use Rattle.hy_base.specs.declared.workload.Command.TheVariants.{Get, Put, Del, Add, Scan};
 ghost use Rattle.hy_rules.specs.History.{pairs_of};
 ghost use Rattle.hy_rules.specs.Exec.{no_effects, perform};
-ghost use Rattle.hy_exec.specs.Running.{HoldsFew, finish_of, with_effects};
+ghost use Rattle.hy_exec.specs.Executing.{HoldsFew, finish_of, with_effects};
 
 use crate::accesses::Accesses;
 use crate::scanning::{read_span, scanned};
@@ -27,7 +27,7 @@ pub struct Txn {
 
 impl Model for Txn {
     ghost use Rattle.hy_rules.specs.History.{pairs_of};
-    ghost use Rattle.hy_exec.specs.Running.{Running};
+    ghost use Rattle.hy_exec.specs.Executing.{Running};
 
     ghost Value = { Running };
 

@@ -3,7 +3,7 @@ use Rattle.std.specs.Prelude.{ℕ, Bool, ◌==◌, List, length}
 use Rattle.hy_io.specs.declared.memory.MemSource.{MemSource}
 use Rattle.hy_io.specs.declared.memory.MemSink.{MemSink}
 use Rattle.hy_io.specs.declared.sure.SureSource.{SureSource}
-use Rattle.hy_io.specs.Calls.{Plan}
+use Rattle.hy_io.specs.EndFailures.{Plan}
 
 -- the bytes that are left
 abbrev pub source_left : MemSource → List ℕ

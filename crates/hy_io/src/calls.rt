@@ -1,6 +1,6 @@
 //! The calls of a source or a sink in memory, some of which fail as planned.
 ghost use Rattle.std.specs.Prelude.{◌≡◌, ◌≤◌, ◌||◌, IfOk};
-ghost use Rattle.hy_io.specs.Calls.{after_call, fails_next, fresh_plan};
+ghost use Rattle.hy_io.specs.EndFailures.{after_call, fails_next, fresh_plan};
 
 use std::alloc::{AllocError, Global};
 use std::marker::Model;
@@ -16,7 +16,7 @@ pub struct Calls {
 
 impl Model for Calls {
     ghost use Rattle.std.specs.Prelude.{◌≤◌};
-    ghost use Rattle.hy_io.specs.Calls.{Plan};
+    ghost use Rattle.hy_io.specs.EndFailures.{Plan};
 
     ghost Value = { Plan };
 

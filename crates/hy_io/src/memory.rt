@@ -3,7 +3,7 @@ ghost use Rattle.std.specs.Prelude.{◌≡◌, ◌-◌, ◌<◌, ◌≤◌, ◌|
 ghost use Rattle.std.specs.Io.{ReadsAtMost, WritesAtMost};
 ghost use Rattle.std.specs.Io.KnownBytes.{ReadConsumes, WriteAppends};
 ghost use Rattle.hy_base.specs.Faults.{HasCause};
-ghost use Rattle.hy_io.specs.Calls.{after_call, fails_next, fresh_plan};
+ghost use Rattle.hy_io.specs.EndFailures.{after_call, fails_next, fresh_plan};
 
 use crate::calls::Calls;
 use crate::rest::Rest;

@@ -13,7 +13,7 @@ use Rattle.hy_rules.specs.Runs.{may_happen, run, setting_of}
 use Rattle.hy_rules.proofs.Backward.{next_state}
 use Rattle.hy_gen.specs.Load.{script_of}
 use Rattle.hy_gen.specs.Rounds.{is_last, log_len, pads, period, publishes, whole}
-use Rattle.hy_load.specs.Laws.{EntryCounts, LogCounts}
+use Rattle.hy_load.specs.LoadLaws.{EntryCounts, LogCounts}
 use Rattle.hy_load.proofs.Bounds.{len_is_whole, len_rises}
 use Rattle.hy_load.proofs.Ends.{entries_both, entries_more}
 use Rattle.hy_load.proofs.Spots.{change_middle, nth_middle, run_both, run_one}

@@ -21,7 +21,7 @@ use Rattle.hy_rules.proofs.Backward.{next_state}
 use Rattle.hy_gen.specs.Draws.{reads_only}
 use Rattle.hy_gen.specs.Load.{program_count, program_numbered, script_of, shape_for}
 use Rattle.hy_gen.specs.Rounds.{ending, ends, entry_count, home, is_last, log_len, number_in, period}
-use Rattle.hy_load.specs.Laws.{CountsUpTo, EntryCounts, LogCounts}
+use Rattle.hy_load.specs.LoadLaws.{CountsUpTo, EntryCounts, LogCounts}
 use Rattle.hy_load.proofs.Bounds.{len_rises}
 use Rattle.hy_load.proofs.Counting.{live_counts}
 use Rattle.hy_load.proofs.Programs.{ProgramLeaves, program_leaves}

@@ -11,7 +11,7 @@ use Rattle.hy_rules.specs.Runs.{opening_of, run}
 use Rattle.hy_gen.specs.Load.{script_of}
 use Rattle.hy_gen.specs.Rounds.{append_count, begin_events, ends, events_in, home, log_len, pads, period, whole}
 use Rattle.hy_gen.proofs.Lengths.{log_len_next, log_len_first}
-use Rattle.hy_load.specs.Laws.{LogCounts}
+use Rattle.hy_load.specs.LoadLaws.{LogCounts}
 use Rattle.hy_load.proofs.Begins.{all_begin}
 use Rattle.hy_load.proofs.Bounds.{len_at_most, whole_least}
 use Rattle.hy_load.proofs.Closes.{all_publish, padded}

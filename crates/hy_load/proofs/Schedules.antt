@@ -10,7 +10,7 @@ use Rattle.hy_rules.proofs.Backward.{none_disabled}
 use Rattle.hy_gen.specs.Draws.{reads_only}
 use Rattle.hy_gen.specs.Load.{schedule_of, script_of}
 use Rattle.hy_gen.specs.Rounds.{round_count, schedule}
-use Rattle.hy_load.specs.Laws.{LogCounts, ScheduleIsEnabled, ScheduleLeads}
+use Rattle.hy_load.specs.LoadLaws.{LogCounts, ScheduleIsEnabled, ScheduleLeads}
 use Rattle.hy_load.proofs.Bounds.{len_at_most}
 use Rattle.hy_load.proofs.Ends.{KnowsReaders}
 use Rattle.hy_load.proofs.Rounds.{all_rounds, opens, steady_first}

@@ -3,7 +3,7 @@ use Rattle.std.proofs.Common.{◌≡◌, ℕ, ◌+◌, List, [], ◌∷◌, ◌+
 use Rattle.std.proofs.lemmas.List.{reverse-append, take-append-le, drop-append-le, nil_from_length, take_all}
 use Rattle.hy_mem.specs.declared.past.Change.{Change}
 use Rattle.hy_mem.specs.declared.past.Change.TheVariants.{Write, Sync}
-use Rattle.hy_mem.specs.History.{DeviceEvent, wrote, synced}
+use Rattle.hy_mem.specs.DiskPast.{DeviceEvent, wrote, synced}
 use Rattle.hy_mem.specs.Changes.{device_events, past_of, spent}
 
 spent-push_write : (changes : List Change) (place count : ℕ) → spent (changes ++ Write place count ∷ []) ≡ spent changes + count

@@ -2,7 +2,7 @@
 use Rattle.std.specs.Prelude.{ℕ, ◌+◌, List, [], ◌∷◌, take, drop, reverse}
 use Rattle.hy_mem.specs.declared.past.Change.{Change}
 use Rattle.hy_mem.specs.declared.past.Change.TheVariants.{Write, Sync}
-use Rattle.hy_mem.specs.History.{DeviceEvent, wrote, synced}
+use Rattle.hy_mem.specs.DiskPast.{DeviceEvent, wrote, synced}
 
 -- the events, the oldest first
 abbrev pub device_events : List Change → List ℕ → List DeviceEvent

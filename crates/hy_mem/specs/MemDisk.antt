@@ -3,8 +3,8 @@ use Rattle.std.specs.Prelude.{◌≡◌, ℕ, ◌+◌, ◌≤◌, List, length, 
 use Rattle.hy_disk.specs.Content.{Content}
 use Rattle.hy_mem.specs.declared.memory.MemDisk.{MemDisk}
 use Rattle.hy_mem.specs.declared.room.Room.{Room}
-use Rattle.hy_mem.specs.Calls.{DevicePlan, IsSoundPlan, IsEarlierCall, spare}
-use Rattle.hy_mem.specs.History.{LeftSince}
+use Rattle.hy_mem.specs.DiskFailures.{DevicePlan, IsSoundPlan, IsEarlierCall, spare}
+use Rattle.hy_mem.specs.DiskPast.{LeftSince}
 
 -- what it holds
 abbrev pub content_of : MemDisk → Content

@@ -1,7 +1,7 @@
 -- The room of a device in memory.
 use Rattle.std.specs.Prelude.{◌+◌, ◌≤◌, length}
 use Rattle.hy_mem.specs.declared.room.Room.{Room}
-use Rattle.hy_mem.specs.History.{Past}
+use Rattle.hy_mem.specs.DiskPast.{Past}
 use Rattle.hy_mem.specs.Store.{Stored}
 
 -- its buffers have place for this room, and for a new beginning with all bytes

@@ -1,7 +1,7 @@
 -- Room for more is room for less.
 use Rattle.std.proofs.Common.{ℕ, ◌≤◌, arith}
 use Rattle.hy_mem.specs.declared.memory.MemDisk.{MemDisk}
-use Rattle.hy_mem.specs.Laws.{is_before}
+use Rattle.hy_mem.specs.DiskLaws.{is_before}
 use Rattle.hy_mem.specs.MemDisk.{HasRoom}
 
 pub room_shrinks : (disk : MemDisk) (j k a b : ℕ) → HasRoom disk k b → j ≤ k → a ≤ b → HasRoom disk j a

@@ -2,7 +2,7 @@
 ghost use Rattle.std.specs.Prelude.{◌≡◌, ◌-◌, ◌||◌, Some, IfOk, is_err, if◌then◌else◌};
 ghost use Rattle.std.specs.Option.{option_map};
 ghost use Rattle.hy_base.specs.Faults.{HasCause};
-ghost use Rattle.hy_mem.specs.Calls.{after_change, after_read, change_fails, cleared, counted_call, fails_by_number, fresh_device_plan, read_fails, strikes_within};
+ghost use Rattle.hy_mem.specs.DiskFailures.{after_change, after_read, change_fails, cleared, counted_call, fails_by_number, fresh_device_plan, read_fails, strikes_within};
 
 use hy_disk::Failed;
 use std::alloc::{AllocError, Global};
@@ -22,7 +22,7 @@ pub struct DeviceCalls {
 }
 
 impl Model for DeviceCalls {
-    ghost use Rattle.hy_mem.specs.Calls.{DevicePlan};
+    ghost use Rattle.hy_mem.specs.DiskFailures.{DevicePlan};
 
     ghost Value = { DevicePlan };
 

@@ -5,8 +5,8 @@ ghost use Rattle.hy_disk.specs.Content.{Image, settled, with_pending, read_into}
 ghost use Rattle.hy_disk.specs.Moments.{Elapses};
 ghost use Rattle.hy_disk.specs.Stops.{stopped};
 ghost use Rattle.hy_disk.specs.Strikes.{IsUnarmed};
-ghost use Rattle.hy_mem.specs.Calls.{fresh_device_plan, cleared, read_fails, change_fails, after_read, after_change};
-ghost use Rattle.hy_mem.specs.History.{replay};
+ghost use Rattle.hy_mem.specs.DiskFailures.{fresh_device_plan, cleared, read_fails, change_fails, after_read, after_change};
+ghost use Rattle.hy_mem.specs.DiskPast.{replay};
 ghost use Rattle.hy_mem.specs.Reserved.{IsReserved};
 ghost use Rattle.hy_mem.specs.Room.{is_room_for, room_after, widened};
 
@@ -112,7 +112,7 @@ impl MemDisk {
 }
 
 impl Disk for MemDisk {
-    ghost use Rattle.hy_mem.specs.Laws.{seen_may_stay, counts_now, only_now};
+    ghost use Rattle.hy_mem.specs.DiskLaws.{seen_may_stay, counts_now, only_now};
     ghost use Rattle.hy_mem.specs.MemDisk.{content_of, plan_of, room_of, moment_of, left_since_of, HasRoom, Strikes};
     ghost use Rattle.hy_mem.specs.RoomLaws.{room_shrinks};
 

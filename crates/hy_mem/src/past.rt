@@ -1,6 +1,6 @@
 //! What a device in memory has been through. It is kept so that contracts can tell what a crash at any moment left.
 ghost use Rattle.std.specs.Prelude.{◌≡◌, ◌+◌, ◌<◌, ◌≤◌, [], ◌∷◌, length, IfOk, OnOk};
-ghost use Rattle.hy_mem.specs.History.{wrote, synced};
+ghost use Rattle.hy_mem.specs.DiskPast.{wrote, synced};
 
 use crate::buffers::{copy_to, reserve_to};
 use std::alloc::{AllocError, Global};
@@ -23,7 +23,7 @@ pub struct Past {
 
 impl Model for Past {
     ghost use Rattle.std.specs.Prelude.{◌≡◌, ◌-◌, length, vec_capacity};
-    ghost use Rattle.hy_mem.specs.History.{Past};
+    ghost use Rattle.hy_mem.specs.DiskPast.{Past};
     ghost use Rattle.hy_mem.specs.Changes.{past_of, spent};
 
     ghost Value = { Past };

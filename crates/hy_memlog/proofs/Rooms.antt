@@ -3,7 +3,7 @@ use Rattle.std.proofs.Common.{◌≡◌, ◌∙◌, ℕ, suc, ◌+◌, ◌*◌, 
 use Rattle.std.proofs.Math.Nat.{mul-le-mul_right, suc-mul}
 use Rattle.hy_formats.specs.LogFormat.{page_count}
 use Rattle.hy_mem.specs.declared.memory.MemDisk.{MemDisk}
-use Rattle.hy_mem.specs.Calls.{IsSoundPlan, IsEarlierCall, spare}
+use Rattle.hy_mem.specs.DiskFailures.{IsSoundPlan, IsEarlierCall, spare}
 use Rattle.hy_disk.specs.Strikes.{IsUnarmed}
 use Rattle.hy_mem.specs.MemDisk.{HasRoom, Strikes}
 use Rattle.hy_mem.specs.RoomLaws.{room_shrinks}

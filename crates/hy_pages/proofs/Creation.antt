@@ -9,8 +9,8 @@ use Rattle.hy_formats.specs.declared.damage.BadPage.{BadPage}
 use Rattle.hy_formats.specs.Reading.{◌>>=◌, AreBytes}
 use Rattle.hy_formats.specs.LogFormat.{header_rest, byte_at, header_in, on_page, records_in, is_unborn, Held, born_log_in, log_in}
 use Rattle.hy_formats.proofs.ByteLemmas.{AreBytes-drop, AreBytes-take}
-use Rattle.hy_pages.specs.Words.{IsTornHeader}
-use Rattle.hy_pages.specs.Laws.{ClosedIsUnborn, TornIsUnborn, UnbornIsOne, UnbornHoldsNothing, UnbornIsFront, HeaderIsRefused, NothingIsUnborn}
+use Rattle.hy_pages.specs.PageWords.{IsTornHeader}
+use Rattle.hy_pages.specs.PageLaws.{ClosedIsUnborn, TornIsUnborn, UnbornIsOne, UnbornHoldsNothing, UnbornIsFront, HeaderIsRefused, NothingIsUnborn}
 use Rattle.hy_pages.proofs.Parts.{is_ok_is, part_of, cases_result, ok_is, err_isnt_ok}
 use Rattle.hy_pages.proofs.Headers.{header_is_read, header_is_one, header_is_first_page}
 

@@ -2,9 +2,9 @@
 ghost use Rattle.std.specs.Prelude.{◌-◌, ◌≤◌, Option, Bool, IfOk, None};
 ghost use Rattle.hy_base.specs.Shape.{IsGoodShape};
 ghost use Rattle.hy_formats.specs.Reading.{items_at};
-ghost use Rattle.hy_codec.specs.Reading.{Gives};
+ghost use Rattle.hy_codec.specs.EntryReading.{Gives};
 ghost use Rattle.hy_formats.specs.PointFormat.{position_at, point_head_at, saved_row_at, flag_at, point_body_at, whole_point_body};
-ghost use Rattle.hy_points.specs.Reading.{point_head_of, body_of};
+ghost use Rattle.hy_points.specs.PointReading.{point_head_of, body_of};
 
 use hy_base::{Key, Pos, Row, Shape};
 use hy_codec::{FieldError, key_at, requiring, u8_in, u32_at, u32_in, u64_at, value_at};

@@ -10,7 +10,7 @@ use Rattle.hy_base.proofs.EachLemmas.{rise_filter}
 use Rattle.hy_base.proofs.MarkLemmas.{same_late}
 use Rattle.hy_rules.specs.History.{written_between}
 use Rattle.hy_rules.specs.Validation.{first_clash, touched}
-use Rattle.hy_rolling.specs.Laws.{AdvanceIsPre}
+use Rattle.hy_rolling.specs.RollingLaws.{AdvanceIsPre}
 use Rattle.hy_rolling.proofs.LastWriters.{by_last_writers}
 
 pub past_known : (t : Bool) (pos writer : ℕ) → is_past (cond t (Some pos) None) writer ≡ (t && nat_lt pos writer)

@@ -13,7 +13,7 @@ use Rattle.hy_base.proofs.RowLemmas.{newest-append}
 use Rattle.hy_rules.specs.History.{flagged_history, history_from, commits_past}
 use Rattle.hy_base.specs.Verdicts.{is_commit}
 use Rattle.hy_rules.specs.Validation.{verdicts_after, history_after, rows_after}
-use Rattle.hy_rolling.specs.Laws.{CommitsMoveOn, CommitsGiveRows}
+use Rattle.hy_rolling.specs.RollingLaws.{CommitsMoveOn, CommitsGiveRows}
 use Rattle.hy_rolling.proofs.Windows.{base_low, kept_low, base_rises}
 use Rattle.hy_rules.proofs.Growth.{Follow, verdicts_follow, verdict_count, history_more}
 

@@ -17,7 +17,7 @@ use Rattle.hy_base.proofs.RowLemmas.{ordered_applied, ordered_newest, Each-appli
 use Rattle.hy_rules.specs.History.{history_from}
 use Rattle.hy_rules.specs.Validation.{Standing, joined_writes, group_writes, verdicts_after, history_after, rows_after}
 use Rattle.hy_rolling.specs.Rolling.{staged_as, staged_members, fate_on, after_fate, Roll, Rolled, rolled_upto, staged_next, finished, roll_group, roll_groups, roll_on, AreWritten, IsRolled}
-use Rattle.hy_rolling.specs.Laws.{AnyCutRollsTheSame, StandingIsLater, RollKeepsLater}
+use Rattle.hy_rolling.specs.RollingLaws.{AnyCutRollsTheSame, StandingIsLater, RollKeepsLater}
 use Rattle.hy_rules.proofs.Groups.{times_more}
 use Rattle.hy_rules.proofs.Serial.{history_from_low, history_is_before}
 use Rattle.hy_rolling.proofs.Mates.{writes_from, writes_below}

@@ -21,7 +21,7 @@ use Rattle.hy_rules.specs.History.{written_between, history_from}
 use Rattle.hy_rules.specs.Validation.{Standing, Filling, Dropped, Joined, touched, first_clash, dropped_or_joined, joined_writes, group_writes, standings, late_conflicts, fate_of, fated}
 use Rattle.hy_rules.specs.Members.{earliest}
 use Rattle.hy_rolling.specs.Rolling.{known_of, least_known, after_fate}
-use Rattle.hy_rolling.specs.Laws.{FinishIsFate, FinishIsRows}
+use Rattle.hy_rolling.specs.RollingLaws.{FinishIsFate, FinishIsRows}
 use Rattle.hy_rules.proofs.Groups.{first_clash-append}
 use Rattle.hy_rolling.proofs.LastWriters.{by_last_writers, Reaches, reached_more, late_own, same_first}
 use Rattle.hy_rolling.proofs.Advance.{late_is_touched}

@@ -15,7 +15,7 @@ use Rattle.hy_base.proofs.MarkLemmas.{same_late}
 use Rattle.hy_rules.proofs.Growth.{same_rise}
 use Rattle.hy_rules.specs.Validation.{Standing, Filling, Dropped, Joined, touched, first_clash, dropped_or_joined, joined_writes, group_writes, standing_of, standings}
 use Rattle.hy_rolling.specs.Rolling.{staged_as, staged_members, known_of, least_known}
-use Rattle.hy_rolling.specs.Laws.{JoinIsMate, SnapsUpTo, StagedAreStandings, GroupMarksAreOwn}
+use Rattle.hy_rolling.specs.RollingLaws.{JoinIsMate, SnapsUpTo, StagedAreStandings, GroupMarksAreOwn}
 use Rattle.hy_rolling.proofs.LastWriters.{by_last_writers}
 use Rattle.hy_rolling.proofs.Advance.{past_known, advance_known}
 use Rattle.hy_rules.proofs.Serial.{rows_at_pos}

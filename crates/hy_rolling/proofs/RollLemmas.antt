@@ -14,7 +14,7 @@ use Rattle.hy_base.specs.Rows.{Each, newest, up_to}
 use Rattle.hy_base.proofs.ShapeLemmas.{base_before, kept_before}
 use Rattle.hy_rules.specs.Validation.{Standing, first_clash, group_writes, standings, late_conflicts, fate_of, fated, group_after, verdicts_after, history_after, rows_after}
 use Rattle.hy_rolling.specs.Rolling.{staged_members, fate_on, after_fate, Rolled, not_rolled, roll_group, roll_groups, AreWritten, HasRolled}
-use Rattle.hy_rolling.specs.Laws.{SnapsUpTo, NewRollerStands, RollExtends, StandingIsOne}
+use Rattle.hy_rolling.specs.RollingLaws.{SnapsUpTo, NewRollerStands, RollExtends, StandingIsOne}
 use Rattle.hy_rolling.proofs.Mates.{staged_are_standings}
 use Rattle.hy_rolling.proofs.Fates.{fate_known, fated_rows}
 use Rattle.hy_rolling.proofs.Windows.{OpensWindow, StaysInWindow, next_window, opened_base, stayed_base, stayed_kept, base_low, kept_low}

@@ -14,9 +14,9 @@ use Rattle.hy_base.proofs.ShapeLemmas.{IsWithin-test}
 use Rattle.hy_script.specs.Fields.{and_then, number_field, one_number, two_numbers, three_numbers, number_and_text}
 use Rattle.hy_script.specs.Forms.{is_blank}
 use Rattle.hy_script.specs.Grammar.{is_shape, last_program_count}
-use Rattle.hy_script.specs.Laws.{FitsFields}
+use Rattle.hy_script.specs.ScriptLaws.{FitsFields}
 use Rattle.hy_script.specs.ScriptFields.{listing_line, number_within, one_more, program_line, servers_line, shape_line}
-use Rattle.hy_script.specs.Spelling.{command_words}
+use Rattle.hy_script.specs.ScriptSpelling.{command_words}
 use Rattle.hy_script.specs.declared.script.ListingLine.{ListingLine}
 use Rattle.hy_script.specs.declared.script.ListingLine.TheVariants.{Client, Begin, Schedule}
 use Rattle.hy_script.specs.declared.script.ProgramLine.TheVariants.{Next}

@@ -13,9 +13,9 @@ use Rattle.hy_base.specs.Limits.{IsServerNumber}
 use Rattle.hy_base.proofs.ShapeLemmas.{is_within-true}
 use Rattle.hy_script.specs.Fields.{and_then, one_number, two_numbers, three_numbers, number_and_text, no_fields}
 use Rattle.hy_script.specs.Grammar.{is_shape, last_program_count}
-use Rattle.hy_script.specs.Laws.{FitsFields}
+use Rattle.hy_script.specs.ScriptLaws.{FitsFields}
 use Rattle.hy_script.specs.ScriptFields.{client_fields, begin_fields, listing_line, number_within, one_more, program_line, put_fields, scan_fields, servers_line, shape_fields, shape_line}
-use Rattle.hy_script.specs.Spelling.{command_words}
+use Rattle.hy_script.specs.ScriptSpelling.{command_words}
 use Rattle.hy_script.specs.declared.script.ListingLine.{ListingLine}
 use Rattle.hy_script.specs.declared.script.ListingLine.TheVariants.{Client, Begin, Schedule}
 use Rattle.hy_script.specs.declared.script.ProgramLine.{ProgramLine}

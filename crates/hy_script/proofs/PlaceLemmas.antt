@@ -8,8 +8,8 @@ use Rattle.hy_base.specs.Script.{Workload, IsCommand, IsProgram}
 use Rattle.hy_base.specs.Spelling.{Text}
 use Rattle.hy_script.specs.Lines.{words_of}
 use Rattle.hy_script.specs.Grammar.{Place, Listing, Programming, with_program}
-use Rattle.hy_script.specs.Reading.{place_after}
-use Rattle.hy_script.specs.Parts.{leading, after_program_line, after_step, place_of, LeadsTo, FailsAs}
+use Rattle.hy_script.specs.ScriptReading.{place_after}
+use Rattle.hy_script.specs.LineParts.{leading, after_program_line, after_step, place_of, LeadsTo, FailsAs}
 use Rattle.hy_script.specs.ScriptFields.{program_line, listing_line, FailsTelling}
 use Rattle.hy_base.specs.declared.layout.Shape.{Shape}
 use Rattle.hy_script.specs.declared.reader.Place.{Place as PlaceCode}

@@ -11,7 +11,7 @@ use Rattle.hy_base.specs.Spelling.{Text}
 use Rattle.hy_script.specs.Forms.{Meaning, LineForm, judged_words, read_line, read_fields}
 use Rattle.hy_script.specs.Fields.{and_then, one_number, two_numbers, three_numbers, number_and_text, no_fields}
 use Rattle.hy_script.specs.Grammar.{Place, Listing, Programming, Scheduled, client_form, begin_form, schedule_form, forms_at, makes, makes_if, gains, with_client, with_program, last_program_count}
-use Rattle.hy_script.specs.Parts.{leading, after_listing, after_program_line}
+use Rattle.hy_script.specs.LineParts.{leading, after_listing, after_program_line}
 use Rattle.hy_script.specs.ScriptFields.{program_line, listing_line, client_fields, begin_fields, one_more}
 use Rattle.hy_script.specs.declared.script.ProgramLine.TheVariants.{Next, End}
 use Rattle.hy_script.specs.declared.script.ListingLine.{ListingLine}

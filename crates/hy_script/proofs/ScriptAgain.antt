@@ -17,12 +17,12 @@ use Rattle.hy_base.specs.Shape.{IsGoodShape, IsWithin}
 use Rattle.hy_base.specs.Spelling.{Text}
 use Rattle.hy_base.specs.Limits.{IsServerNumber}
 use Rattle.hy_script.specs.Grammar.{Place, AtStart, Shaped, Listing, Programming, change_last, gains_program, last_program_count, with_program}
-use Rattle.hy_script.specs.Laws.{ClientFits, FitsFields, IsScriptSpellable, ProgramFits, ReadsItsSpelling}
+use Rattle.hy_script.specs.ScriptLaws.{ClientFits, FitsFields, IsScriptSpellable, ProgramFits, ReadsItsSpelling}
 use Rattle.hy_script.specs.Lines.{lines_of, numbered_lines, words_of}
-use Rattle.hy_script.specs.Parts.{after_listing, after_program_line, leading}
-use Rattle.hy_script.specs.Reading.{place_after, place_after_all}
+use Rattle.hy_script.specs.LineParts.{after_listing, after_program_line, leading}
+use Rattle.hy_script.specs.ScriptReading.{place_after, place_after_all}
 use Rattle.hy_script.specs.ScriptFields.{listing_line, program_line, servers_line, shape_line}
-use Rattle.hy_script.specs.Spelling.{client_lines, command_words, program_lines, script_lines, script_text, text_of_lines}
+use Rattle.hy_script.specs.ScriptSpelling.{client_lines, command_words, program_lines, script_lines, script_text, text_of_lines}
 use Rattle.hy_script.proofs.Drafts.{change_last_is, last_program_count_is, script_with, counted_at}
 use Rattle.hy_script.proofs.LinesAgain.{begin_again, client_again, command_again, servers_again, shape_again}
 use Rattle.hy_script.proofs.LinesSpelled.{IsSpeech, lines_first, numbered_first, visible_decimal, visible_value, words_spelled}

@@ -8,7 +8,7 @@ use Rattle.hy_base.specs.Spelling.{Text}
 use Rattle.hy_script.specs.Forms.{judged_words, read_line}
 use Rattle.hy_script.specs.Fields.{and_then, three_numbers, one_number}
 use Rattle.hy_script.specs.Grammar.{Place, AtStart, Shaped, Listing, last_program_count, is_shape, forms_at, makes_if}
-use Rattle.hy_script.specs.Parts.{leading}
+use Rattle.hy_script.specs.LineParts.{leading}
 use Rattle.hy_script.specs.ScriptFields.{shape_line, servers_line}
 use Rattle.hy_script.specs.declared.why.Why.{Why}
 use Rattle.hy_script.specs.declared.why.Why.TheVariants.{Range}

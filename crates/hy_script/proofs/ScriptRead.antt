@@ -11,13 +11,13 @@ use Rattle.hy_base.specs.Shape.{IsGoodShape, IsWithin}
 use Rattle.hy_base.specs.Spelling.{Text}
 use Rattle.hy_base.proofs.ListLemmas.{all_push}
 use Rattle.hy_script.specs.Grammar.{Place, AtStart, Shaped, Listing, Programming, Scheduled, change_last, gains_program, last_program_count, with_client, with_program}
-use Rattle.hy_script.specs.Laws.{ClientFits, FitsFields, IsSaidBy, IsScriptSpellable, ProgramFits, SpellsWhatItReads, words_by_line}
+use Rattle.hy_script.specs.ScriptLaws.{ClientFits, FitsFields, IsSaidBy, IsScriptSpellable, ProgramFits, SpellsWhatItReads, words_by_line}
 use Rattle.hy_script.specs.Lines.{numbered_lines, words_of}
 use Rattle.hy_script.specs.Outcome.{Reads}
-use Rattle.hy_script.specs.Parts.{after_listing, after_program_line, leading}
-use Rattle.hy_script.specs.Reading.{script_ended, place_after, place_after_all, read_script, start_after}
+use Rattle.hy_script.specs.LineParts.{after_listing, after_program_line, leading}
+use Rattle.hy_script.specs.ScriptReading.{script_ended, place_after, place_after_all, read_script, start_after}
 use Rattle.hy_script.specs.ScriptFields.{listing_line, program_line, servers_line, shape_line}
-use Rattle.hy_script.specs.Spelling.{client_lines, command_words, program_lines, script_lines}
+use Rattle.hy_script.specs.ScriptSpelling.{client_lines, command_words, program_lines, script_lines}
 use Rattle.hy_script.specs.declared.refused.ReadError.{ReadError}
 use Rattle.hy_script.specs.declared.refused.Reading.{Reading}
 use Rattle.hy_script.specs.declared.refused.Refused.{Refused}

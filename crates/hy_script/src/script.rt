@@ -3,7 +3,7 @@ ghost use Rattle.std.specs.Prelude.{◌≡◌, ◌<◌, ℕ, List, Ok, Err, leng
 ghost use Rattle.hy_base.specs.Script.{IsCommand, client_count};
 ghost use Rattle.hy_base.specs.Shape.{IsGoodShape, IsWithin};
 ghost use Rattle.hy_script.specs.Fields.{HasFields, and_then, one_number, two_numbers, three_numbers, no_fields};
-ghost use Rattle.hy_script.specs.Parts.{IsClientListed, IsNextLine};
+ghost use Rattle.hy_script.specs.LineParts.{IsClientListed, IsNextLine};
 ghost use Rattle.hy_script.specs.ScriptFields.{shape_fields, scan_fields, ValueOf, shape_line, servers_line, number_within, client_fields, listing_line, one_more, put_fields, program_line, TellsField};
 ghost use Rattle.hy_script.specs.Lines.{words_of};
 ghost use Rattle.hy_base.specs.declared.workload.Command.TheVariants.{Get, Del, Add};

@@ -4,7 +4,7 @@ use Rattle.std.specs.Prelude.{map}
 use Rattle.std.specs.List.{join_with_byte}
 use Rattle.hy_base.specs.Spelling.{Text, line}
 use Rattle.hy_text.specs.declared.texts.Word.{Word}
-use Rattle.hy_text.specs.Words.{word_text, spaced}
+use Rattle.hy_text.specs.LineWords.{word_text, spaced}
 
 joined : (first : Text) (words : List Word) → join_with_byte 32 (first ∷ map word_text words) ≡ first ++ spaced words
 joined first [] = sym (append-nil first)

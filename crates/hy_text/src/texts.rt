@@ -5,7 +5,7 @@ ghost use Rattle.std.specs.Prelude.{◌≡◌, ◌∷◌, ◌++◌, [], codes, d
 ghost use Rattle.std.specs.List.{enumerate_from};
 ghost use Rattle.hy_base.specs.Spelling.{event_words, line};
 ghost use Rattle.hy_formats.specs.Texts.{abort_words, answer_text, client_text, memory_fault_text, outcome_words, reply_text, report_text, row_text, script_fault_text, server_text, source_fault_text, trace_text, usage_text, verdict_words};
-ghost use Rattle.hy_text.specs.Words.{spaced, word_text};
+ghost use Rattle.hy_text.specs.LineWords.{spaced, word_text};
 
 use hy_base::{
     Answer, Clash, Event, Outcome, Pair, Replies, Reply, Results, Row, ServerRows, Value, Verdict,

@@ -1,5 +1,5 @@
 use Rattle.std.proofs.Common.{◌≡◌, drop}
-use Rattle.hy_core.specs.Parts.{furthest}
+use Rattle.hy_core.specs.CoreParts.{furthest}
 use Rattle.hy_core.proofs.moves.furthest.Given as goal
 
 -- what is the furthest of all is that of the best so far and those that are left

@@ -1,5 +1,5 @@
 use Rattle.std.proofs.Common.{◌≡◌, ◌++◌, map, drop}
-use Rattle.hy_core.specs.Parts.{fresh_client_state}
+use Rattle.hy_core.specs.CoreParts.{fresh_client_state}
 use Rattle.hy_core.proofs.parts.open_client_states.Given as goal
 
 -- the client_states so far, and one for each client that is left

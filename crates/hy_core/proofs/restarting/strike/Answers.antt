@@ -3,7 +3,7 @@ use Rattle.std.specs.Prelude.{option_map}
 use Rattle.hy_base.proofs.ResultLemmas.{any_err}
 use Rattle.hy_formats.specs.EntryFormat.{spelling}
 use Rattle.hy_memlog.specs.Pages.{with_body}
-use Rattle.hy_core.specs.Parts.{Holding, log_held}
+use Rattle.hy_core.specs.CoreParts.{Holding, log_held}
 use Rattle.hy_core.proofs.Stopping.{kept_or_broken}
 use Rattle.hy_core.proofs.restarting.strike.Goals as goal
 

@@ -2,7 +2,7 @@ use Rattle.std.proofs.Common.{List, subst}
 use Rattle.hy_base.specs.declared.workload.Event.{Event}
 use Rattle.hy_base.specs.Script.{Workload}
 use Rattle.hy_gen.specs.Load.{script_of}
-use Rattle.hy_run.specs.Calls.{IsEndedRun}
+use Rattle.hy_run.specs.Handovers.{IsEndedRun}
 use Rattle.hy_run.proofs.Simulating.{load_run}
 use Rattle.hy_run.proofs.generate.generated_text.Goals as goal
 

@@ -1,5 +1,5 @@
 use Rattle.std.proofs.Common.{◌≡◌, ◌++◌, drop}
-use Rattle.hy_text.specs.Words.{spaced}
+use Rattle.hy_text.specs.LineWords.{spaced}
 use Rattle.hy_text.proofs.texts.put_words.Given as goal
 
 -- what was written so far, and the words that are left

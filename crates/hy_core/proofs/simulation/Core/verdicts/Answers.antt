@@ -4,7 +4,7 @@ use Rattle.hy_base.specs.Lists.{nth}
 use Rattle.hy_rules.specs.Runs.{is_finished}
 use Rattle.hy_rules.specs.Validation.{verdicts}
 use Rattle.hy_core.specs.Course.{Course}
-use Rattle.hy_core.specs.Parts.{log_held}
+use Rattle.hy_core.specs.CoreParts.{log_held}
 use Rattle.hy_core.proofs.Telling.{finished_verdicts, keeps_all}
 use Rattle.hy_core.proofs.simulation.Core.verdicts.Goals as goal
 

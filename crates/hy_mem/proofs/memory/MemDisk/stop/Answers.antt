@@ -1,7 +1,7 @@
 use Rattle.std.proofs.Common.{List, ℕ, ap, subst, sym}
 use Rattle.hy_disk.specs.Content.{Content, Image}
 use Rattle.hy_disk.proofs.Seen.{stopped_is_image}
-use Rattle.hy_mem.specs.Laws.{seen_may_stay}
+use Rattle.hy_mem.specs.DiskLaws.{seen_may_stay}
 use Rattle.hy_mem.specs.MemDisk.{content_of}
 use Rattle.hy_mem.proofs.memory.MemDisk.stop.Goals as goal
 

@@ -2,8 +2,8 @@
 use Rattle.std.proofs.Common.{◌≡◌, inl, inr, ℕ, ◌≤◌, List, [], ◌∷◌, length, Option, Some, None, sym, subst, arith}
 use Rattle.hy_disk.specs.Content.{Content, Image}
 use Rattle.hy_disk.proofs.Seen.{seen_settled, seen_written}
-use Rattle.hy_mem.specs.Calls.{IsEarlierCall}
-use Rattle.hy_mem.specs.History.{DeviceEvent, wrote, synced, replay, LeftSince}
+use Rattle.hy_mem.specs.DiskFailures.{IsEarlierCall}
+use Rattle.hy_mem.specs.DiskPast.{DeviceEvent, wrote, synced, replay, LeftSince}
 
 seen-replay : (first : List ℕ) (earlier : List DeviceEvent) → Image (replay first earlier) (replay first earlier).seen
 seen-replay first [] = seen_settled first

@@ -11,8 +11,8 @@ use Rattle.hy_base.specs.Script.{Workload, IsScript}
 use Rattle.hy_base.specs.Shape.{IsWithin}
 use Rattle.hy_base.specs.Spelling.{Text, event_words}
 use Rattle.hy_script.specs.Lines.{numbered_lines, words_of}
-use Rattle.hy_script.specs.Reading.{read_script, read_schedule}
-use Rattle.hy_script.specs.Spelling.{script_lines, script_text, schedule_text, input_text}
+use Rattle.hy_script.specs.ScriptReading.{read_script, read_schedule}
+use Rattle.hy_script.specs.ScriptSpelling.{script_lines, script_text, schedule_text, input_text}
 use Rattle.hy_script.specs.declared.refused.EventLine.{EventLine}
 use Rattle.hy_script.specs.declared.refused.ScheduleStart.{ScheduleStart}
 use Rattle.hy_script.specs.declared.refused.Reading.{Reading}

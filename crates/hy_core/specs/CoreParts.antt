@@ -21,7 +21,7 @@ use Rattle.hy_rules.specs.Moves.{State, surviving, client_passes, is_begun, fres
 use Rattle.hy_rules.specs.Runs.{snap_of, Ending, ByStop, Ended, answers_to, setting_of, leaves_write, added, ended_by, is_done}
 use Rattle.hy_formats.specs.EntryFormat.{spelling}
 use Rattle.hy_memlog.specs.Pages.{Pages, IsStop, with_body, broken_log}
-use Rattle.hy_exec.specs.Running.{notes_write}
+use Rattle.hy_exec.specs.Executing.{notes_write}
 use Rattle.hy_core.specs.declared.running.Running.{Running}
 use Rattle.hy_core.specs.declared.parts.Parts.{Parts}
 use Rattle.hy_core.specs.declared.parts.ClientState.{ClientState}
