@@ -1,3 +1,3 @@
 pub mod CommandLine
 pub mod Matches
-pub mod Laws
+pub mod CommandLaws

@@ -1,5 +1,5 @@
 pub use Rattle.hy_base.specs.Faults
-pub mod Calls
+pub mod EndFailures
 pub mod Memory
 pub mod Streams
 pub mod Whole

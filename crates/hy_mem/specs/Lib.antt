@@ -1,7 +1,7 @@
-pub mod Calls
+pub mod DiskFailures
 pub mod Changes
-pub mod History
-pub mod Laws
+pub mod DiskPast
+pub mod DiskLaws
 pub mod MemDisk
 pub mod Reserved
 pub mod Room

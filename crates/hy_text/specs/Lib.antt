@@ -1,2 +1,2 @@
 pub use Rattle.hy_formats.specs.Texts
-pub mod Words
+pub mod LineWords
