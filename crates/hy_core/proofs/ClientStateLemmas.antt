@@ -1,4 +1,4 @@
--- Clients' client_states: what is known at a client's number, and how it is kept.
+-- Clients' states: what is known at a client's number, and how it is kept.
 use Rattle.std.proofs.Common.{◌≡◌, ℕ, zero, suc, ◌+◌, ◌-◌, ◌≤◌, Bool, false, List, [], ◌∷◌, length, map, refl, ap, sym, ◌∙◌, subst, arith}
 use Rattle.std.specs.Prelude.{Option, Some, None, slice_get, option_map, option_and_then, unwrap_or, slice_set}
 use Rattle.std.specs.Option.{option_map_or}
@@ -18,7 +18,7 @@ use Rattle.hy_rules.specs.Runs.{setting_of, pending, execution, snap_of}
 use Rattle.hy_core.specs.declared.parts.ClientState.{ClientState}
 use Rattle.hy_core.specs.CoreParts.{IsClientState, AreClientStates}
 
--- the client at a client_state
+-- the client at a client state
 pub record KeptClient (script : Workload) (log : List EntryKind) (number : ℕ) (cs : List Client) (k : ℕ) (x : ClientState) : Type 0 where
   pub client : Client
   pub is_client : slice_get cs k ≡ Some client
@@ -94,7 +94,7 @@ pub set_at : {X : Type 0} (xs : List X) (n : ℕ) (x y : X) → 1 ≤ n → y �
 set_at xs zero x y some same = absurd (omega (arith, some))
 set_at xs (suc k) x y some same = let at : suc k - 1 ≡ k = omega arith in (λ i. slice_set xs (at i) (same i)) ∙ set_nth xs k x
 
--- a client_state that changes
+-- a client state that changes
 pub client_states_change : (script : Workload) (log : List EntryKind) (number : ℕ) (cs : List Client) (xs : List ClientState) (k : ℕ) (c : Client) (y : ClientState) → AreClientStates script log number cs xs → slice_get cs k ≡ Some c → IsClientState script log (number + k) c y
     → AreClientStates script log number cs (change_nth (λ _. y) xs (suc k))
 client_states_change script log number [] [] k c y are e is = absurd (cc)

@@ -36,7 +36,7 @@ use Rattle.hy_core.proofs.LogGrowth.{client_states_grow, told_grow, stored_after
 use Rattle.hy_core.proofs.TailRule.{as_many}
 use Rattle.hy_core.proofs.Telling.{few_at}
 
--- ---- the client_states
+-- ---- the client states
 
 abandoned_by : (phase : Phase) (b : Bool) (x : ClientState) → is_begun phase ≡ b → x.session.phase ≡ phase → (abandoned_client_state x).session ≡ abandoned x.session
 abandoned_by Idle b x is phase = rw phase refl
@@ -303,7 +303,7 @@ append_kept script h client pos snap x run e stop rs script_is is armed keeps at
         (λ k z here. let e1 : 1 + k ≡ suc k = omega arith in ap (nth (state_in_course h).sessions) e1 ∙ nth_map (λ (z : ClientState). z.session) h.client_states (suc k) z here)
         (place_is client (nth_within h.client_states client x b.is).at_least))
 
--- ---- what a restart asks of the client_states
+-- ---- what a restart asks of the client states
 
 client_states_fit_by : (script : Workload) (log : List EntryKind) (number : ℕ) (cs : List Client) (xs : List ClientState) → AreClientStates script log number cs xs → AllByRecursion HasFewPrograms cs → AllByRecursion ClientStateFits xs
 client_states_fit_by script log number [] [] are few = tt

@@ -90,7 +90,7 @@ module _ {script : Workload} {h : Holding} {client : ℕ} {e : EntryKind} (a : A
       let client_is : IsClient script.servers found.own = All-nth (IsClient script.servers) script.clients client found.own found.is_own a.script_is.clients in
       omega (arith, found.client_state.most, client_is.count)
 
-  -- the numbers of the client_states that are left fit
+  -- the numbers of the client states that are left fit
   pub left_fit : (stop : ArmedStop) (pos : ℕ) (mid : Holding) → (is_kept stop ≡ true → Leaves (struck stop e h) mid client pos) → (is_kept stop ≡ false → mid ≡ struck stop e h) → AllByRecursion ClientStateFits mid.client_states
   left_fit stop pos mid kept dropped = elim (cases_Bool (is_kept stop)) [
     | inl keeps ↦

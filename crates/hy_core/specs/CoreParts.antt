@@ -76,7 +76,7 @@ pub record IsRunning (script : Workload) (log : List EntryKind) (number : ℕ) (
   pub answers : run.answers ≡ (exec program (live script.shape log snap)).0
   pub leaves : run.entry ≡ entry_left c.server number snap (exec program (live script.shape log snap)).1
 
--- a client's client_state: its next program, and what it keeps where it is begun
+-- a client's state: its next program, and what it keeps where it is begun
 pub record IsClientState (script : Workload) (log : List EntryKind) (number : ℕ) (c : Client) (x : ClientState) : Type 0 where
   pub first : 1 ≤ x.session.next
   pub most : x.session.next ≤ length c.programs + 1
@@ -85,7 +85,7 @@ pub record IsClientState (script : Workload) (log : List EntryKind) (number : �
 abbrev pub fresh_client_state : ClientState
 fresh_client_state = record { session = fresh_session; running = None }
 
--- the client_states of clients, the first of which has this number
+-- the client states of clients, the first of which has this number
 abbrev pub AreClientStates : Workload → List EntryKind → ℕ → List Client → List ClientState → Type 0
 AreClientStates script log number [] [] = ⊤
 AreClientStates script log number [] (x ∷ xs) = ⊥
@@ -138,11 +138,11 @@ begun_wrote script s client = if client_passes (setting_of script) s client (λ 
 abbrev pub is_ready : Session → ℕ → ℕ → Bool
 is_ready session programs board = not (is_begun session.phase) && (nat_le session.next programs && nat_le session.last board)
 
--- a client's client_state once the program of this number has ended
+-- a client's state once the program of this number has ended
 abbrev pub departed : ℕ → ℕ → ClientState
 departed number last = record { session = record { next = number + 1; phase = Idle; last = last }; running = None }
 
--- a client's client_state, begun at a snapshot
+-- a client's state, begun at a snapshot
 pub record BegunClientState (h : Holding) (client snap : ℕ) (x : ClientState) (run : Running) : Type 0 where
   pub is : nth h.client_states client ≡ Some x
   pub phase : x.session.phase ≡ Begun snap
@@ -164,7 +164,7 @@ LeavesEntry h client = (x : ClientState) (run : Running) → nth h.client_states
 abbrev pub told_in_course : ℕ → ℕ → ClientState → Running → ProgramEnd → EndedProgram
 told_in_course client snap x run end = record { client = client; number = x.session.next; snap = snap; end = Some end; answers = run.answers }
 
--- a begun client's program ends: it is told, and the client's client_state is at the next program
+-- a begun client's program ends: it is told, and the client's state is at the next program
 abbrev pub finishing : Holding → ℕ → ℕ → ClientState → Running → ProgramEnd → Holding
 finishing h client snap x run end = record h {
   client_states = change_nth (λ _. departed x.session.next x.session.last) h.client_states client;
@@ -266,11 +266,11 @@ pub record Breaking (old new : Holding) : Type 0 where
   pub is : new ≡ broken old
   pub armed : is_some old.armed ≡ true
 
--- the number after a client_state's next program is one of 32 bits
+-- the number after a client state's next program is one of 32 bits
 abbrev pub ClientStateFits : ClientState → Type 0
 ClientStateFits x = x.session.next + 1 < 2 ^ 32
 
--- a client_state whose program is lost where it was begun
+-- a client state whose program is lost where it was begun
 abbrev pub abandoned_client_state : ClientState → ClientState
 abandoned_client_state x = if is_begun x.session.phase then departed x.session.next x.session.last else x
 
