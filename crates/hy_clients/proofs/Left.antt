@@ -1,7 +1,7 @@
 -- What is left of a run when its hub is closed.
-use Rattle.std.proofs.Common.{◌≡◌, ◌≢◌, ℕ, ◌+◌, ◌≤◌, Bool, true, false, IsTrue, List, [], ◌∷◌, ◌++◌, length, get_or, take, map, Some, None, refl, ap, sym, ◌∙◌, subst, arith, length-append}
-use Rattle.std.specs.Prelude.{All, Option, ◌==◌}
-use Rattle.std.specs.List.{list_all}
+use Rattle.std.proofs.Common.{◌≡◌, ◌≢◌, ℕ, ◌+◌, ◌≤◌, Bool, true, false, IsTrue, List, [], ◌∷◌, ◌++◌, length, get_or, take, map, None, refl, ap, sym, ◌∙◌, subst, arith, length-append}
+use Rattle.std.specs.Prelude.{All, ◌==◌}
+use Rattle.std.specs.List.{list_all, list_any}
 use Rattle.std.proofs.lemmas.List.{take_all}
 use Rattle.std.proofs.lemmas.List.Elements.{All-nil, All-cons}
 use Rattle.std.proofs.lemmas.Bool.Decides.{nat_tests}
@@ -15,13 +15,16 @@ use Rattle.hy_base.specs.declared.record.EntryKind.{EntryKind}
 use Rattle.hy_disk.specs.Content.{Content}
 use Rattle.hy_log.specs.View.{LogView, HoldsUpTo}
 use Rattle.hy_formats.specs.EntryFormat.{spelling}
-use Rattle.hy_rules.specs.Moves.{Setting}
+use Rattle.hy_base.specs.declared.workload.Event.{Event}
+use Rattle.hy_rules.specs.Moves.{Setting, State, opening, is_stop}
 use Rattle.hy_rolling.specs.Rolling.{Roll, rolled_upto, Stands}
-use Rattle.hy_rules.specs.Runs.{setting_of as script_setting}
+use Rattle.hy_rules.specs.Runs.{setting_of as script_setting, opening_of}
 use Rattle.hy_hub.specs.Origin.{Origin}
 use Rattle.hy_hub.specs.declared.occurrence.Occurrence.{Occurrence}
 use Rattle.hy_hub.specs.declared.occurrence.Occurrence.TheVariants.{Opened}
-use Rattle.hy_hub.specs.Trace.{setting_in, state_after, faults_at_opening}
+use Rattle.hy_hub.specs.Past.{HasStood}
+use Rattle.hy_hub.specs.Calls.{events_in_list}
+use Rattle.hy_hub.specs.Trace.{setting_in, state_after, faults_at_opening, after_all}
 use Rattle.hy_hub.specs.Hub.{IsBoard, IsHubHistory, IsTornLog}
 use Rattle.hy_hub.specs.Close.{IsClosed}
 use Rattle.hy_hub.specs.Initial.{IsInitial}
@@ -30,7 +33,10 @@ use Rattle.hy_base.specs.declared.workload.Home.{Home}
 use Rattle.hy_hub.proofs.Told.{told_setting}
 use Rattle.hy_hub.proofs.Passing.{log_more}
 use Rattle.hy_clients.specs.Passing.{OpensStanding, opened_log}
-use Rattle.hy_clients.specs.Finished.{IsCutShort}
+use Rattle.hy_clients.specs.Finished.{IsCutShort, IsTornBehind}
+use Rattle.hy_rules.specs.Moves.{LeadTo}
+use Rattle.hy_clients.proofs.RunLaw.{moves_are, state_is}
+use Rattle.hy_clients.proofs.Running.{moves as moves_on, no_stops}
 use Rattle.hy_clients.proofs.Openings.{opened_same}
 
 -- ---- logs
@@ -39,7 +45,7 @@ snaps_first : (s : Shape) (pos : ℕ) (xs ys : List EntryKind) → HaveLawfulSna
 snaps_first s pos [] ys all = tt
 snaps_first s pos (x ∷ xs) ys all = (all.0, snaps_first s (pos + 1) xs ys all.1)
 
-lawful_first : (s : Shape) (xs ys : List EntryKind) → IsLawful s (xs ++ ys) → IsLawful s xs
+pub lawful_first : (s : Shape) (xs ys : List EntryKind) → IsLawful s (xs ++ ys) → IsLawful s xs
 lawful_first s xs ys lawful = record { capacity = let c = lawful.capacity in omega (arith, c, length-append xs ys); snaps = snaps_first s 0 xs ys lawful.snaps }
 
 -- the log begins with that of the opening
@@ -52,52 +58,76 @@ found_first list is =
 
 -- ---- a log that was cut short
 
-module _ {D : Type 0} {tells : Bool} {content : D → Content} {faults : ℕ} {list : List Occurrence} {log : LogView D} {entries : List EntryKind} {rollers : List Roll} (closed : IsClosed tells content faults list log entries rollers) where
+module _ {D : Type 0} {tells : Bool} {content : D → Content} {leaves : D → (List ℕ → Type 0) → Type 0} {least : ℕ} {faults : ℕ} {list : List Occurrence} {log : LogView D} {entries : List EntryKind} {rollers : List Roll} (closed : IsClosed tells content leaves least faults list log entries rollers) where
   abbrev o : Origin
   o = closed.told.opened
 
   shape_of : (setting_in list).shape ≡ log.shape
   shape_of = ap (λ (w : Setting). w.shape) (told_setting closed.told.opened list _ _ closed.told.told) ∙ sym closed.stored.shape_is
 
-  -- a log that runs, or that doesn't tell its bodies
-  whole_cut : (shape : Shape) → (setting_in list).shape ≡ shape → (IsTrue tells → log.stopped ≡ None) → IsCutShort tells content shape (opened_log list) log
-  whole_cut shape same runs = record {
-    entries = (state_after list).log;
-    begins = found_first list closed.told;
-    lawful = subst (λ (s : Shape). IsLawful s (state_after list).log) (sym closed.stored.shape_is ∙ (sym shape_of ∙ same)) closed.told.lawful;
-    sound = closed.told.sound;
-    log_shape = sym shape_of ∙ same;
-    bodies = λ t. closed.stored.bodies t ∙ ap (map spelling) closed.entries_are;
-    torn = λ t some. absurd (some (runs t));
-  }
+  -- by the script that the list runs, and what was found
+  module _ (script : Workload) (same : setting_in list ≡ script_setting script) (found_is : least ≡ length (opened_log list)) where
+    same_shape : (setting_in list).shape ≡ script.shape
+    same_shape = ap (λ (w : Setting). w.shape) same
 
-  torn_cut : (shape : Shape) → (setting_in list).shape ≡ shape → IsTornLog content log entries → IsCutShort tells content shape (opened_log list) log
-  torn_cut shape same torn =
-      let here : log.shape ≡ shape = sym shape_of ∙ same in
-      let mine = closed.entries_are in
-      record {
-        entries = (state_after list).log;
-        begins = found_first list closed.told;
-        lawful = subst (λ (s : Shape). IsLawful s (state_after list).log) (sym closed.stored.shape_is ∙ here) closed.told.lawful;
-        sound = closed.told.sound;
-        log_shape = here;
-        bodies = λ t. torn.bodies ∙ ap (map spelling) mine;
-        torn = λ t some. record {
+    here : log.shape ≡ script.shape
+    here = sym shape_of ∙ same_shape
+
+    opened_shape : closed.told.opened.shape ≡ script.shape
+    opened_shape = sym closed.stored.shape_is ∙ here
+
+    -- what a crash since the making left, of a log that runs
+    pub since_made : IsTrue tells → log.stopped ≡ None → leaves log.disk (HasStood script.shape (length (opened_log list)) (state_after list).log [])
+    since_made t running =
+        subst (λ (n : ℕ). leaves log.disk (HasStood script.shape n (state_after list).log [])) found_is
+        (subst (λ (es : List EntryKind). leaves log.disk (HasStood script.shape least es [])) closed.entries_are (subst (λ (z : Shape). leaves log.disk (HasStood z least entries [])) opened_shape (closed.stored.past t running)))
+
+    led : LeadTo (script_setting script) (opening_of script (opened_log list)) (events_in_list list) (state_after list)
+    led =
+        let w = script_setting script in
+        let start : State = opening w closed.told.opened.found in
+        let events : events_in_list list ≡ events_in_list closed.told.told.past = ap events_in_list closed.told.told.begins in
+        subst (λ (f : List EntryKind). LeadTo w (opening w f) (events_in_list list) (state_after list)) (sym (ap opened_log closed.told.told.begins))
+        (subst (λ (z : State). LeadTo w start (events_in_list list) z) (sym (state_is script list closed.told same))
+        (subst (λ (es : List Event). LeadTo w start es (after_all w start closed.told.told.past)) (sym events) (moves_on w start closed.told.told.past (moves_are script list closed.told same))))
+
+    quiet : list_any is_stop (events_in_list list) ≡ false
+    quiet = ap (list_any is_stop) (ap events_in_list closed.told.told.begins) ∙ no_stops (script_setting script) (opening (script_setting script) closed.told.opened.found) closed.told.told.past (moves_are script list closed.told same)
+
+    -- the log, by what is left where it is stopped
+    cut_of : (IsTrue tells → log.stopped ≢ None → IsTornBehind content leaves script.shape (opened_log list) (state_after list).log log) → IsCutShort tells content leaves script (opened_log list) log
+    cut_of torn = record {
+      entries = (state_after list).log;
+      begins = found_first list closed.told;
+      lawful = subst (λ (s : Shape). IsLawful s (state_after list).log) opened_shape closed.told.lawful;
+      sound = closed.told.sound;
+      events = events_in_list list;
+      end = state_after list;
+      moves = led;
+      calm = quiet;
+      leads_to = refl;
+      log_shape = here;
+      count = closed.stored.count ∙ ap length closed.entries_are;
+      bodies = λ t. closed.stored.bodies t ∙ ap (map spelling) closed.entries_are;
+      past = since_made;
+      torn = torn;
+    }
+
+    behind : IsTornLog content leaves least log entries → IsTornBehind content leaves script.shape (opened_log list) (state_after list).log log
+    behind torn =
+        let mine = closed.entries_are in
+        record {
           batch = torn.batch;
           size = torn.size;
-          lawful = subst (λ (l : List EntryKind). IsLawful shape (l ++ torn.batch)) mine (subst (λ (s : Shape). IsLawful s (entries ++ torn.batch)) here torn.lawful);
+          lawful = subst (λ (l : List EntryKind). IsLawful script.shape (l ++ torn.batch)) mine (subst (λ (s : Shape). IsLawful s (entries ++ torn.batch)) here torn.lawful);
           sound = torn.sound;
           left = λ image is. subst (λ (s : Shape). HoldsUpTo s log.bodies (map spelling torn.batch) image) here (torn.left image is);
-        };
-      }
+          past = subst (λ (n : ℕ). leaves log.disk (HasStood script.shape n (state_after list).log torn.batch)) found_is
+              (subst (λ (es : List EntryKind). leaves log.disk (HasStood script.shape least es torn.batch)) mine (subst (λ (z : Shape). leaves log.disk (HasStood z least entries torn.batch)) here torn.past));
+        }
 
-  by_stop : (shape : Shape) → (setting_in list).shape ≡ shape → (told : Bool) → tells ≡ told → (stop : Option ℕ) → log.stopped ≡ stop → IsCutShort tells content shape (opened_log list) log
-  by_stop shape same told telling None is = whole_cut shape same (λ t. is)
-  by_stop shape same false telling (Some at) is = whole_cut shape same (λ t. absurd (cc))
-  by_stop shape same true telling (Some at) is = torn_cut shape same (closed.stored.torn telling (λ none. absurd (cc)))
-
-  pub cut_short : (shape : Shape) → (setting_in list).shape ≡ shape → IsCutShort tells content shape (opened_log list) log
-  cut_short shape same = by_stop shape same tells refl log.stopped refl
+    pub cut_short : IsCutShort tells content leaves script (opened_log list) log
+    cut_short = cut_of (λ t stopped. behind (closed.stored.torn t stopped))
 
   pub no_fewer : faults_at_opening list ≤ faults
   no_fewer = let e : faults_at_opening list ≡ closed.told.opened.faults = ap faults_at_opening closed.told.told.begins in let n = closed.stored.no_less in omega (arith, e, n)
@@ -106,23 +136,29 @@ module _ {D : Type 0} {tells : Bool} {content : D → Content} {faults : ℕ} {l
   rose stopped = subst (λ (n : ℕ). Rose n faults) (sym (ap faults_at_opening closed.told.told.begins)) (closed.stored.cause stopped)
 
 -- the log of a hub that was closed, by what its first pass had seen
-pub run_cut : {D : Type 0} {tells : Bool} {content : D → Content} {faults : ℕ} {list : List Occurrence} {log : LogView D} {entries : List EntryKind} {rollers : List Roll} (closed : IsClosed tells content faults list log entries rollers) (script : Workload) (first : List Occurrence)
-    → IsHubHistory first → IsPrefix first list → setting_in first ≡ script_setting script → IsCutShort tells content script.shape (opened_log first) log
-run_cut {D} {tells} {content} {faults} {list} {log} {entries} {rollers} closed script first is p same =
+pub run_cut : {D : Type 0} {tells : Bool} {content : D → Content} {leaves : D → (List ℕ → Type 0) → Type 0} {least : ℕ} {faults : ℕ} {list : List Occurrence} {log : LogView D} {entries : List EntryKind} {rollers : List Roll} (closed : IsClosed tells content leaves least faults list log entries rollers) (script : Workload) (first : List Occurrence)
+    → IsHubHistory first → IsPrefix first list → setting_in first ≡ script_setting script → least ≡ length (opened_log first) → IsCutShort tells content leaves script (opened_log first) log
+run_cut {D} {tells} {content} {leaves} {least} {faults} {list} {log} {entries} {rollers} closed script first is p same found =
     let o = opened_same first list is p in
-    let shape : (setting_in list).shape ≡ script.shape = ap (λ (w : Setting). w.shape) (o.setting ∙ same) in
-    subst (λ (l : List EntryKind). IsCutShort tells content script.shape l log) o.log (cut_short closed script.shape shape)
+    subst (λ (l : List EntryKind). IsCutShort tells content leaves script l log) o.log (cut_short closed script (o.setting ∙ same) (found ∙ sym (ap length o.log)))
 
 -- the log before a hub was made of it, or where none was
-pub initial_cut : {D : Type 0} (tells : Bool) (content : D → Content) (log back : LogView D) (entries : List EntryKind) (start : Roll) (servers : ℕ) (homes : List Home) (shape : Shape)
-    → IsInitial tells log entries start servers homes → start.shape ≡ shape → back.shape ≡ log.shape → back.stopped ≡ None → (IsTrue tells → back.bodies ≡ log.bodies) → IsCutShort tells content shape entries back
-initial_cut tells content log back entries start servers homes shape initial same here running bodies = record {
+pub initial_cut : {D : Type 0} (tells : Bool) (content : D → Content) (leaves : D → (List ℕ → Type 0) → Type 0) (log back : LogView D) (entries : List EntryKind) (start : Roll) (servers : ℕ) (homes : List Home) (script : Workload)
+    → IsInitial tells log entries start servers homes → start.shape ≡ script.shape → back.shape ≡ log.shape → back.stopped ≡ None → length back.bodies ≡ length log.bodies → (IsTrue tells → back.bodies ≡ log.bodies) → (IsTrue tells → leaves back.disk (HasStood script.shape (length entries) entries [])) → IsCutShort tells content leaves script entries back
+initial_cut tells content leaves log back entries start servers homes script initial same here running count bodies past = record {
   entries = entries;
   begins = prefix_self entries;
   lawful = subst (λ (s : Shape). IsLawful s entries) same initial.lawful;
   sound = initial.sound;
+  events = [];
+  end = opening_of script entries;
+  moves = refl;
+  calm = refl;
+  leads_to = refl;
   log_shape = here ∙ (initial.shape ∙ same);
+  count = count ∙ initial.count;
   bodies = λ t. bodies t ∙ initial.bodies t;
+  past = λ t running. past t;
   torn = λ t some. absurd (some running);
 }
 

@@ -1,5 +1,5 @@
 //! All clients of a script on a log.
-ghost use Rattle.std.specs.Prelude.{◌≡◌, ◌≢◌, ◌≤◌, ◌==◌, length, map, true, None, IfOk, IfErr};
+ghost use Rattle.std.specs.Prelude.{◌≡◌, ◌≢◌, ◌≤◌, ◌==◌, length, map, true, None, IsTrue, IfOk, IfErr};
 ghost use Rattle.std.specs.List.{list_all};
 ghost use mathlib.Core.List.{IsPrefix};
 ghost use Rattle.hy_base.specs.Faults.{Rose};
@@ -7,7 +7,9 @@ ghost use Rattle.hy_base.specs.Limits.{IsThreadCount};
 ghost use Rattle.hy_rules.specs.Runs.{setting_of as script_setting};
 ghost use Rattle.hy_hub.specs.Calls.{events_in_list};
 ghost use Rattle.hy_hub.specs.Close.{IsClosed};
+ghost use Rattle.hy_formats.specs.LogDevice.{Holds};
 ghost use Rattle.hy_hub.specs.Initial.{IsInitial};
+ghost use Rattle.hy_disk.specs.Moments.{LeavesSince};
 ghost use Rattle.hy_hub.specs.Trace.{setting_in, state_after, faults_at_opening};
 ghost use Rattle.hy_clients.specs.Passing.{IsRunPass, OpensInLog, opened_log, opened_start};
 ghost use Rattle.hy_clients.specs.Served.{AllServed};
@@ -24,11 +26,12 @@ use crate::task::serve_all;
 use hy_base::{Entry, Items, Replies, Script, Shared};
 use hy_disk::Disk;
 use hy_hist::Pass;
-use hy_hub::{Closed, Contents, Events, Hub};
+use hy_hub::{Closed, Contents, Events, Hub, Since};
 use hy_log::PageLog;
 use hy_pipe::Gate;
 use hy_roller::Roller;
 use std::alloc::Global;
+use std::marker::Brand;
 use std::sync::Wait;
 use std::thread::Threads;
 
@@ -71,20 +74,21 @@ fn break_off<D: Disk>(log: PageLog<D>) -> Broken<D>
 }
 
 // What is told of a run that was closed at its end, where the log runs.
-fn finished<D: Disk>(
+fn finished<D: Disk, B: Since>(
     alloc: Global,
     script: &Script,
     closed: Closed<D>,
     events: Events,
     told: Vec<Vec<Answered>>,
 ) -> Result<Run<D>, Broken<D>>
-    requires closed { IsClosed D.tells D.content (D.faults_of closed.log.disk) closed.occurrences.items closed.log closed.entries.items closed.rollers.items }
+    requires closed { IsClosed D.tells D.content (LeavesSince D.moment D.left_since B.moment B.left) B.least (D.faults_of closed.log.disk) closed.occurrences.items closed.log closed.entries.items closed.rollers.items }
     requires setting { setting_in closed.occurrences.items ≡ script_setting script.now }
     requires within { OpensInLog closed.occurrences.items }
+    requires least { B.least ≡ length (opened_log closed.occurrences.items) }
     requires ends { list_all (λ board. board == length (state_after closed.occurrences.items).log) (state_after closed.occurrences.items).boards ≡ true }
     requires served { AllServed script.now closed.occurrences.items 1 script.now.clients (map (λ t. t.items) told.items) }
     requires events { events ≡ events_in_list closed.occurrences.items }
-    ensures run { IfOk result (λ run. (run.log ≡ closed.log) × IsFinished D.tells script.now (opened_log closed.occurrences.items) (opened_start closed.occurrences.items) run.events run.replies run.boards run.log) }
+    ensures run { IfOk result (λ run. (run.log ≡ closed.log) × IsFinished D.tells (LeavesSince D.moment D.left_since B.moment B.left) script.now (opened_log closed.occurrences.items) (opened_start closed.occurrences.items) run.events run.replies run.boards run.log) }
     ensures log { IfErr result (λ broken. broken.log ≡ closed.log) }
     ensures cause { IfErr result (λ broken. broken.cause ≡ Cause.Device → closed.log.stopped ≢ None) }
     ensures memory { IfErr result (λ broken. broken.cause ≡ Cause.Memory → closed.log.stopped ≡ None) }
@@ -114,12 +118,12 @@ fn finished<D: Disk>(
 }
 
 // Serves all clients, and then brings the servers to the log's end.
-fn serve_to_end<D: Disk + Send, R: Threads + Wait + Sync, G: Gate + Sync>(
+fn serve_to_end<D: Disk + Send, B: Since + Send, R: Threads + Wait + Sync, G: Gate + Sync>(
     rt: &R,
     alloc: Global,
     script: &Script,
-    hub: &Hub<D>,
-    pass: &mut Pass<Contents<D>>,
+    hub: &Hub<D, B>,
+    pass: &mut Pass<Contents<D, B>>,
     threads: usize,
     gate: &G,
 ) -> Result<Vec<Vec<Answered>>, Cut>
@@ -145,21 +149,22 @@ fn serve_to_end<D: Disk + Send, R: Threads + Wait + Sync, G: Gate + Sync>(
 }
 
 // Serves all clients over a hub that was just made, brings its servers to the log's end, and closes it.
-fn run_on<D: Disk + Send, R: Threads + Wait + Sync, G: Gate + Sync>(
+fn run_on<D: Disk + Send, B: Since + Send, R: Threads + Wait + Sync, G: Gate + Sync>(
     rt: &R,
     alloc: Global,
     script: &Script,
-    hub: Hub<D>,
-    mut pass: Pass<Contents<D>>,
+    hub: Hub<D, B>,
+    mut pass: Pass<Contents<D, B>>,
     threads: usize,
     gate: &G,
 ) -> Result<Run<D>, Broken<D>>
     requires pass { IsRunPass hub script.now pass }
     requires parts { (hub.parts ≡ 129) × (pass.parts ≡ 129) }
     requires within { OpensInLog pass.seen }
+    requires least { B.least ≡ length (opened_log pass.seen) }
     requires threads { IsThreadCount threads }
-    ensures run { IfOk result (λ run. IsFinished D.tells script.now (opened_log pass.seen) (opened_start pass.seen) run.events run.replies run.boards run.log) }
-    ensures cut { IfErr result (λ broken. IsCutShort D.tells D.content script.now.shape (opened_log pass.seen) broken.log) }
+    ensures run { IfOk result (λ run. IsFinished D.tells (LeavesSince D.moment D.left_since B.moment B.left) script.now (opened_log pass.seen) (opened_start pass.seen) run.events run.replies run.boards run.log) }
+    ensures cut { IfErr result (λ broken. IsCutShort D.tells D.content (LeavesSince D.moment D.left_since B.moment B.left) script.now (opened_log pass.seen) broken.log) }
     ensures cause { IfErr result (λ broken. broken.cause ≡ Cause.Device → Rose (faults_at_opening pass.seen) (D.faults_of broken.log.disk)) }
     ensures memory { IfErr result (λ broken. broken.cause ≡ Cause.Memory → broken.log.stopped ≡ None) }
     ensures stopped { IfErr result (λ broken. broken.log.stopped ≢ None → Rose (faults_at_opening pass.seen) (D.faults_of broken.log.disk)) }
@@ -170,8 +175,42 @@ fn run_on<D: Disk + Send, R: Threads + Wait + Sync, G: Gate + Sync>(
     let events = hub.trace(rt, &mut pass);
     let closed = hub.close(pass);
     match (told, events) {
-        (Ok(told), Ok(events)) => finished(alloc, script, closed, events, told),
+        (Ok(told), Ok(events)) => finished::<D, B>(alloc, script, closed, events, told),
         _ => Err(break_off(closed.log)),
+    }
+}
+
+// Runs all programs of all clients over a log, which was looked at since a moment of its device's clock.
+fn run_since<D: Disk + Send, B: Since + Send, R: Threads + Wait + Sync, G: Gate + Sync>(
+    rt: &R,
+    alloc: Global,
+    script: &Script,
+    log: PageLog<D>,
+    entries: Vec<Shared<Entry>>,
+    start: Roller,
+    threads: usize,
+    gate: &G,
+) -> Result<Run<D>, Broken<D>>
+    requires opens { IsInitial D.tells log entries.items start script.now.servers (script_setting script.now).homes }
+    requires shape { start.shape ≡ script.now.shape }
+    requires since { IsTrue D.tells → LeavesSince D.moment D.left_since B.moment B.left log.disk (Holds log.shape log.bodies) }
+    requires least { B.least ≡ length log.bodies }
+    requires threads { IsThreadCount threads }
+    ensures run { IfOk result (λ run. IsFinished D.tells (LeavesSince D.moment D.left_since B.moment B.left) script.now entries.items start run.events run.replies run.boards run.log) }
+    ensures cut { IfErr result (λ broken. IsCutShort D.tells D.content (LeavesSince D.moment D.left_since B.moment B.left) script.now entries.items broken.log) }
+    ensures cause { IfErr result (λ broken. broken.cause ≡ Cause.Device → Rose (D.faults_of log.disk) (D.faults_of broken.log.disk)) }
+    ensures memory { IfErr result (λ broken. broken.cause ≡ Cause.Memory → broken.log.stopped ≡ None) }
+    ensures stopped { IfErr result (λ broken. broken.log.stopped ≢ None → Rose (D.faults_of log.disk) (D.faults_of broken.log.disk)) }
+    ensures later { IfOk result (λ run. D.faults_of log.disk ≤ D.faults_of run.log.disk) }
+    ensures later_cut { IfErr result (λ broken. D.faults_of log.disk ≤ D.faults_of broken.log.disk) }
+{
+    let Ok(homes) = homes_of(alloc, script) else {
+        return Err(break_off(log));
+    };
+    let _ = start.base_tree();
+    match Hub::<D, B>::new(alloc, log, entries, start, script.servers(), &homes) {
+        Err(log) => Err(break_off(log)),
+        Ok((hub, pass)) => run_on(rt, alloc, script, hub, pass, threads, gate),
     }
 }
 
@@ -196,20 +235,14 @@ pub fn run_clients<D: Disk + Send, R: Threads + Wait + Sync, G: Gate + Sync>(
     requires opens { IsInitial D.tells log entries.items start script.now.servers (script_setting script.now).homes }
     requires shape { start.shape ≡ script.now.shape }
     requires threads { IsThreadCount threads }
-    ensures run { IfOk result (λ run. IsFinished D.tells script.now entries.items start run.events run.replies run.boards run.log) }
-    ensures cut { IfErr result (λ broken. IsCutShort D.tells D.content script.now.shape entries.items broken.log) }
+    ensures run { IfOk result (λ run. IsFinished D.tells (LeavesSince D.moment D.left_since (D.moment log.disk) (D.left_since log.disk)) script.now entries.items start run.events run.replies run.boards run.log) }
+    ensures cut { IfErr result (λ broken. IsCutShort D.tells D.content (LeavesSince D.moment D.left_since (D.moment log.disk) (D.left_since log.disk)) script.now entries.items broken.log) }
     ensures cause { IfErr result (λ broken. broken.cause ≡ Cause.Device → Rose (D.faults_of log.disk) (D.faults_of broken.log.disk)) }
     ensures memory { IfErr result (λ broken. broken.cause ≡ Cause.Memory → broken.log.stopped ≡ None) }
     ensures stopped { IfErr result (λ broken. broken.log.stopped ≢ None → Rose (D.faults_of log.disk) (D.faults_of broken.log.disk)) }
     ensures later { IfOk result (λ run. D.faults_of log.disk ≤ D.faults_of run.log.disk) }
     ensures later_cut { IfErr result (λ broken. D.faults_of log.disk ≤ D.faults_of broken.log.disk) }
 {
-    let Ok(homes) = homes_of(alloc, script) else {
-        return Err(break_off(log));
-    };
-    let _ = start.base_tree();
-    match Hub::new(alloc, log, entries, start, script.servers(), &homes) {
-        Err(log) => Err(break_off(log)),
-        Ok((hub, pass)) => run_on(rt, alloc, script, hub, pass, threads, gate),
-    }
+    log.is_at_rest();
+    run_since::<D, Brand, R, G>(rt, alloc, script, log, entries, start, threads, gate)
 }

@@ -14,8 +14,8 @@ ghost use Rattle.std.specs.Prelude.{◌≡◌, ℕ, IfOk, map, string_bytes};
 ghost use Rattle.std.specs.Vec.Iter.{into_iter_items};
 ghost use Rattle.std.specs.Process.{exit_status};
 ghost use Rattle.hy_run.specs.Answering.{IsCall, ends_at};
-ghost use Rattle.hy_run.specs.Devices.{Devices, devices_of};
 ghost use Rattle.hy_run.specs.Output.{status_number};
+ghost use Rattle.hy_run.specs.Over.{over};
 
 use hy_base::Words;
 use hy_disk::Disk;
@@ -70,7 +70,7 @@ fn call<R: Threads + Wait + Sync, S: Source, K: Sink, D: Disk + Drop + Send, G: 
     gate: &G,
 ) -> ExitCode
     // The exit status is that of an answer which is right, and what the ends are left with is what it says.
-    ensures { (answer : Status) × (left : Devices D) × (acked : ℕ) × (exit_status result ≡ status_number answer) × IsCall D.tells D.content D.moment D.left_since D.faults_of words.now (ends_at (S.left source.old) (S.faults source.old) (K.taken sink.old) (K.faults sink.old)) (ends_at (S.left source.new) (S.faults source.new) (K.taken sink.new) (K.faults sink.new)) (devices_of log points) left answer acked }
+    ensures { (answer : Status) × (log_left points_left : D) × (acked : ℕ) × (exit_status result ≡ status_number answer) × IsCall words.now (ends_at (S.left source.old) (S.faults source.old) (K.taken sink.old) (K.faults sink.old)) (ends_at (S.left source.new) (S.faults source.new) (K.taken sink.new) (K.faults sink.new)) (over D.tells D.content D.moment D.left_since D.faults_of log log_left) (over D.tells D.content D.moment D.left_since D.faults_of points points_left) answer acked }
 {
     let done = hyder_call(rt, alloc, words, source, sink, log, points, gate);
     exit_code(done.status)

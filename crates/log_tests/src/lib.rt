@@ -33,6 +33,8 @@ mod memory_device;
 #[cfg(test)]
 mod pages;
 #[cfg(test)]
+mod pipelines;
+#[cfg(test)]
 mod point_format;
 #[cfg(test)]
 mod rules;

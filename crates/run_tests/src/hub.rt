@@ -1,10 +1,12 @@
 //! Small hubs over devices in memory.
-ghost use Rattle.std.specs.Prelude.{◌≡◌, ◌+◌, ◌<◌, ◌≤◌, All, IfOk, IfSome, length, ℕ, []};
+ghost use Rattle.std.specs.Prelude.{◌≡◌, ◌+◌, ◌<◌, ◌≤◌, All, IfOk, IfSome, IsTrue, length, ℕ, []};
 ghost use Rattle.hy_base.specs.Shape.{IsGoodShape, IsWithin};
 ghost use Rattle.hy_hub.specs.Calls.{IsIdle};
 ghost use Rattle.run_tests.specs.Trial.{IsTrial, IsPutOf};
 
 use crate::calls::empty;
+use crate::courses::course_of;
+use crate::slow_disk::SlowDisk;
 use hy_base::{
     Entry, Event, Home, Intention, Phase, Points, Pos, Shape, Spans, Value, Verdict, Write, Writes,
 };
@@ -16,13 +18,14 @@ use hy_mem::MemDisk;
 use hy_pipe::{OpenGate, roll};
 use hy_roller::{Roller, Told};
 use std::alloc::{AllocError, Global};
+use std::marker::Brand;
 use std::sync::Wait;
 use std::test::Fail;
 use std::thread;
 use std::thread::Threads;
 
 /// A hub, and a pass with all its parts.
-pub type Trial<D> = (Hub<D>, Pass<Contents<D>>);
+pub type Trial<D, B> = (Hub<D, B>, Pass<Contents<D, B>>);
 
 /// A log without entries on a device.
 pub fn open_on<D: Disk + Drop>(alloc: Global, disk: D, shape: Shape) -> Result<PageLog<D>, Fail>
@@ -38,21 +41,15 @@ pub fn open_on<D: Disk + Drop>(alloc: Global, disk: D, shape: Shape) -> Result<P
     Ok(log)
 }
 
-// A log without entries on a device in memory.
-fn log_on(alloc: Global, shape: Shape) -> Result<PageLog<MemDisk>, Fail>
-    requires { IsGoodShape shape }
-    ensures { IfOk result (λ log. (log.stopped ≡ None) × (log.batch ≡ []) × (log.bodies ≡ []) × (log.shape ≡ shape)) }
-{
-    open_on(alloc, empty(alloc)?, shape)
-}
-
 /// A hub of two servers with a client each, which has three programs.
-pub fn hub_on<D: Disk + Drop>(
+pub fn hub_on<D: Disk + Drop, B: Since>(
     alloc: Global,
     shape: Shape,
     log: PageLog<D>,
-) -> Result<Trial<D>, Fail>
-    requires { IsGoodShape shape × (log.stopped ≡ None) × (log.batch ≡ []) × (log.bodies ≡ []) × (log.shape ≡ shape) }
+) -> Result<Trial<D, B>, Fail>
+    requires log { IsGoodShape shape × (log.stopped ≡ None) × (log.batch ≡ []) × (log.bodies ≡ []) × (log.shape ≡ shape) }
+    requires untold { IsTrue D.tells → ⊥ }
+    requires least { B.least ≡ 0 }
     ensures trial { IfOk result (λ r. IsTrial r.0 shape r.1) }
     ensures parts { IfOk result (λ r. (r.0.parts ≡ 129) × (r.1.parts ≡ 129)) }
 {
@@ -73,13 +70,14 @@ pub fn hub_on<D: Disk + Drop>(
     }
 }
 
-fn start(alloc: Global, shape: Shape) -> Result<Trial<MemDisk>, Fail>
+// Such a hub on a device in memory that tells nothing, so that no clause looks back.
+fn start_on(alloc: Global, shape: Shape, disk: MemDisk) -> Result<Trial<SlowDisk, Brand>, Fail>
     requires { IsGoodShape shape }
     ensures trial { IfOk result (λ r. IsTrial r.0 shape r.1) }
     ensures parts { IfOk result (λ r. (r.0.parts ≡ 129) × (r.1.parts ≡ 129)) }
 {
-    let log = log_on(alloc, shape)?;
-    hub_on(alloc, shape, log)
+    let log = open_on(alloc, SlowDisk::quiet(alloc, disk)?, shape)?;
+    hub_on::<SlowDisk, Brand>(alloc, shape, log)
 }
 
 // A put of a byte at key 1 by a client of the server with its number. None where memory runs out.
@@ -103,11 +101,11 @@ fn put(alloc: Global, client: u8, snap: Pos, byte: u8) -> Option<Entry>
 }
 
 // The client's next program begins.
-fn begin<D: Disk, R: Wait>(
+fn begin<D: Disk, B: Since, R: Wait>(
     rt: &R,
     shape: Shape,
-    hub: &Hub<D>,
-    pass: &mut Pass<Contents<D>>,
+    hub: &Hub<D, B>,
+    pass: &mut Pass<Contents<D, B>>,
     client: u8,
 ) -> Result<Begun, BeginRefusal>
     requires trial { IsTrial hub.now shape pass.old }
@@ -120,11 +118,11 @@ fn begin<D: Disk, R: Wait>(
 }
 
 /// Whether the client's next program begins.
-pub fn begins<D: Disk, R: Wait>(
+pub fn begins<D: Disk, B: Since, R: Wait>(
     rt: &R,
     shape: Shape,
-    hub: &Hub<D>,
-    pass: &mut Pass<Contents<D>>,
+    hub: &Hub<D, B>,
+    pass: &mut Pass<Contents<D, B>>,
     client: u8,
 ) -> bool
     requires trial { IsTrial hub.now shape pass.old }
@@ -138,11 +136,11 @@ pub fn begins<D: Disk, R: Wait>(
     is_begun
 }
 
-fn append<D: Disk, R: Wait>(
+fn append<D: Disk, B: Since, R: Wait>(
     rt: &R,
     shape: Shape,
-    hub: &Hub<D>,
-    pass: &mut Pass<Contents<D>>,
+    hub: &Hub<D, B>,
+    pass: &mut Pass<Contents<D, B>>,
     client: u8,
     entry: Entry,
 ) -> Result<Pos, AppendRefusal>
@@ -157,12 +155,12 @@ fn append<D: Disk, R: Wait>(
 }
 
 // What a server's look gives, rolled and published.
-fn catch_up<D: Disk, R: Threads + Wait + Sync>(
+fn catch_up<D: Disk, B: Since, R: Threads + Wait + Sync>(
     rt: &R,
     alloc: Global,
     shape: Shape,
-    hub: &Hub<D>,
-    pass: &mut Pass<Contents<D>>,
+    hub: &Hub<D, B>,
+    pass: &mut Pass<Contents<D, B>>,
     server: u8,
 ) -> Option<Result<(), PublishRefusal>>
     requires trial { IsTrial hub.now shape pass.old }
@@ -177,6 +175,9 @@ fn catch_up<D: Disk, R: Threads + Wait + Sync>(
     drop(look);
     Some(hub.publish(rt, pass, server, rolled?))
 }
+
+/// How many writes and syncs the opening of a device without bytes takes.
+const OPENING: u64 = 7;
 
 /// Groups of one.
 pub const SHAPE: Shape = Shape {
@@ -204,12 +205,12 @@ const SMALL: Shape = Shape {
 };
 
 /// The client's next program begins, and puts a byte.
-pub fn put_once<D: Disk, R: Wait>(
+pub fn put_once<D: Disk, B: Since, R: Wait>(
     rt: &R,
     alloc: Global,
     shape: Shape,
-    hub: &Hub<D>,
-    pass: &mut Pass<Contents<D>>,
+    hub: &Hub<D, B>,
+    pass: &mut Pass<Contents<D, B>>,
     client: u8,
 ) -> Option<Result<Pos, AppendRefusal>>
     requires trial { IsTrial hub.now shape pass.old }
@@ -229,8 +230,8 @@ pub fn put_once<D: Disk, R: Wait>(
 struct Bench {
     alloc: Global,
     shape: Shape,
-    hub: Hub<MemDisk>,
-    pass: Pass<Contents<MemDisk>>,
+    hub: Hub<SlowDisk, Brand>,
+    pass: Pass<Contents<SlowDisk, Brand>>,
     ghost trial: { IsTrial hub shape pass },
     ghost whole: { hub.parts ≡ pass.parts },
 }
@@ -239,7 +240,7 @@ impl Bench {
     fn new(alloc: Global, shape: Shape) -> Result<Bench, Fail>
         requires { IsGoodShape shape }
     {
-        let (hub, pass) = start(alloc, shape)?;
+        let (hub, pass) = start_on(alloc, shape, empty(alloc)?)?;
         Ok(Bench {
             alloc,
             shape,
@@ -250,11 +251,11 @@ impl Bench {
 
     // Its device fails in its k-th write or sync.
     fn failing(alloc: Global, shape: Shape, k: u64) -> Result<Bench, Fail>
-        requires { IsGoodShape shape × (1 ≤ k) }
+        requires { IsGoodShape shape × (1 ≤ k) × (k < 100) }
     {
-        let mut log = log_on(alloc, shape)?;
-        log.arm(k);
-        let (hub, pass) = hub_on(alloc, shape, log)?;
+        let mut disk = empty(alloc)?;
+        disk.arm(OPENING + k);
+        let (hub, pass) = start_on(alloc, shape, disk)?;
         Ok(Bench {
             alloc,
             shape,
@@ -338,7 +339,7 @@ impl Bench {
         }
     }
 
-    fn close(self) -> Closed<MemDisk> {
+    fn close(self) -> Closed<SlowDisk> {
         let Bench {
             alloc: _,
             shape: _,
@@ -350,8 +351,8 @@ impl Bench {
 }
 
 // The device of a hub that is closed.
-fn device_of<D: Disk + Drop>(closed: Closed<D>) -> D {
-    closed.log.close()
+fn device_of(closed: Closed<SlowDisk>) -> MemDisk {
+    closed.log.close().into_disk()
 }
 
 // The refusal of a call that comes when its client is elsewhere.
@@ -367,7 +368,7 @@ fn a_program_is_begun_and_appended(rt: HostRuntime) -> Result<(), Fail> {
     assert!(rt; bench.begin(&rt, 1).err() == Some(behind));
     assert!(rt; bench.pad(&rt, 1) == Err(PadRefusal::Even));
     let closed = bench.close();
-    assert!(rt; closed.entries.len() == 1 && closed.occurrences.len() == 5);
+    assert!(rt; closed.entries.len() == 1 && closed.occurrences.len() == 7);
     assert!(rt; device_of(closed).bytes().len() == 513);
     Ok(())
 }
@@ -476,16 +477,28 @@ fn an_append_that_fails_stops_the_hub(rt: HostRuntime) -> Result<(), Fail> {
     assert!(rt; bench.has_trace(&rt, &wanted));
     let closed = bench.close();
     assert!(rt; closed.log.stopped() == Some(1) && closed.entries.len() == 0);
-    assert!(rt; is_one_body(rt.alloc(), device_of(closed).stop(1)));
+    assert!(rt; has_bodies(rt.alloc(), device_of(closed).stop(1), 1));
     Ok(())
 }
 
-// Whether a device holds a log of one body.
-fn is_one_body(alloc: Global, disk: MemDisk) -> bool {
+// Whether a device holds a log of so many bodies.
+fn has_bodies(alloc: Global, disk: MemDisk, count: Pos) -> bool {
     match open_log(alloc, disk, Some(SHAPE)) {
-        Ok(log) => log.len() == 1,
+        Ok(log) => log.len() == count,
         Err(_) => false,
     }
+}
+
+#[test]
+fn a_batch_that_is_not_laid_down_stops_the_hub(rt: HostRuntime) -> Result<(), Fail> {
+    for k in 1..3 {
+        let mut bench = Bench::failing(rt.alloc(), SHAPE, k)?;
+        assert!(rt; bench.put(&rt, 1) == Some(Err(AppendRefusal::Device)));
+        let closed = bench.close();
+        assert!(rt; closed.log.stopped() == Some(1) && closed.entries.len() == 0);
+        assert!(rt; has_bodies(rt.alloc(), device_of(closed).stop(1), 0));
+    }
+    Ok(())
 }
 
 #[test]
@@ -512,11 +525,11 @@ fn fillers_are_written_at_once(rt: HostRuntime) -> Result<(), Fail> {
 }
 
 // A client's programs, one after another, each begun once its server has published the one before.
-fn run_client<D: Disk, R: Threads + Wait + Sync>(
+fn run_client<D: Disk, B: Since, R: Threads + Wait + Sync>(
     rt: &R,
     alloc: Global,
-    hub: &Hub<D>,
-    pass: &mut Pass<Contents<D>>,
+    hub: &Hub<D, B>,
+    pass: &mut Pass<Contents<D, B>>,
     client: u8,
 ) -> Option<()>
     requires trial { IsTrial hub.now SHAPE pass.old }
@@ -533,17 +546,17 @@ fn run_client<D: Disk, R: Threads + Wait + Sync>(
 
 // A client whose programs run on a thread, with a pass of its own.
 #[derive(Drop)]
-struct Errand<D: Disk> {
+struct Errand<D: Disk, B: Since> {
     client: u8,
-    pass: Pass<Contents<D>>,
+    pass: Pass<Contents<D, B>>,
     done: bool,
 }
 
-fn run_errand<D: Disk, R: Threads + Wait + Sync>(
+fn run_errand<D: Disk, B: Since, R: Threads + Wait + Sync>(
     rt: &R,
     alloc: Global,
-    hub: &Hub<D>,
-    errand: &mut Errand<D>,
+    hub: &Hub<D, B>,
+    errand: &mut Errand<D, B>,
 )
     requires client { IsWithin 1 2 errand.old.client }
     requires trial { IsTrial hub.now SHAPE errand.old.pass }
@@ -555,11 +568,11 @@ fn run_errand<D: Disk, R: Threads + Wait + Sync>(
 }
 
 // Runs the errands concurrently, on two threads.
-fn run_errands<D: Disk + Send, R: Threads + Wait + Sync>(
+fn run_errands<D: Disk + Send, B: Since + Send, R: Threads + Wait + Sync>(
     rt: &R,
     alloc: Global,
-    hub: &Hub<D>,
-    errands: &mut [Errand<D>],
+    hub: &Hub<D, B>,
+    errands: &mut [Errand<D, B>],
 )
     requires clients { All (λ errand. IsWithin 1 2 errand.client) errands.old }
     requires trial { All (λ errand. IsTrial hub.now SHAPE errand.pass) errands.old }
@@ -570,7 +583,7 @@ fn run_errands<D: Disk + Send, R: Threads + Wait + Sync>(
         rt,
         errands,
         2,
-        &|_, errand: &mut Errand<D>|
+        &|_, errand: &mut Errand<D, B>|
             requires { IsWithin 1 2 errand.now.client × IsTrial hub.now SHAPE errand.now.pass }
             ensures { IsTrial hub.entry.now SHAPE errand.exit.now.pass }
         { run_errand(rt, alloc, hub, errand) },
@@ -578,10 +591,10 @@ fn run_errands<D: Disk + Send, R: Threads + Wait + Sync>(
 }
 
 // Takes in the pass of the last errand. Whether there was one, and its client is done.
-fn join_last<D: Disk>(
-    hub: &Hub<D>,
-    pass: &mut Pass<Contents<D>>,
-    errands: &mut Vec<Errand<D>>,
+fn join_last<D: Disk, B: Since>(
+    hub: &Hub<D, B>,
+    pass: &mut Pass<Contents<D, B>>,
+    errands: &mut Vec<Errand<D, B>>,
 ) -> bool
     requires pass { IsIdle hub.now pass.old }
     requires trial { All (λ errand. IsTrial hub.now SHAPE errand.pass) errands.old.items }
@@ -604,7 +617,7 @@ fn join_last<D: Disk>(
 
 // Both clients concurrently, each with a pass of its own.
 fn run_beside<R: Threads + Wait + Sync>(rt: &R, alloc: Global) -> Result<Events, Fail> {
-    let (hub, mut pass) = start(alloc, SHAPE)?;
+    let (hub, mut pass) = start_on(alloc, SHAPE, empty(alloc)?)?;
     let one = Errand {
         client: 1,
         pass: hub.split(&mut pass, 1),
@@ -630,138 +643,6 @@ fn run_beside<R: Threads + Wait + Sync>(rt: &R, alloc: Global) -> Result<Events,
     Ok(trace)
 }
 
-// How far a client and its server have come.
-#[derive(Clone, Copy)]
-struct Side {
-    board: Pos,
-    runs: bool,
-    left: u8,
-    last: Pos,
-}
-
-// How long the log is, and how far each client has come with its server.
-#[derive(Clone, Copy)]
-struct Course {
-    len: Pos,
-    one: Side,
-    two: Side,
-}
-
-const AT_FIRST: Side = Side {
-    board: 0,
-    runs: false,
-    left: 3,
-    last: 0,
-};
-
-fn side_of(course: Course, number: u8) -> Option<Side> {
-    match number {
-        1 => Some(course.one),
-        2 => Some(course.two),
-        _ => None,
-    }
-}
-
-fn with_side(course: Course, number: u8, side: Side) -> Course {
-    if number == 1 {
-        Course {
-            one: side,
-            ..course
-        }
-    } else {
-        Course {
-            two: side,
-            ..course
-        }
-    }
-}
-
-// How much of a group stands at the end of this many entries.
-fn part_of(len: Pos, shape: Shape) -> Pos {
-    let group = Pos::from(shape.group);
-    if group == 0 { 0 } else { len % group }
-}
-
-fn begun(side: Side) -> Option<Side> {
-    if side.runs || side.left == 0 || side.board < side.last {
-        return None;
-    }
-    Some(Side { runs: true, ..side })
-}
-
-fn appended(side: Side, at: Pos) -> Option<Side> {
-    if !side.runs || side.left == 0 {
-        return None;
-    }
-    Some(Side {
-        runs: false,
-        left: side.left - 1,
-        last: at,
-        ..side
-    })
-}
-
-fn published(side: Side, upto: Pos, len: Pos, shape: Shape) -> Option<Side> {
-    if upto <= side.board || len < upto || part_of(upto, shape) != 0 {
-        return None;
-    }
-    Some(Side {
-        board: upto,
-        ..side
-    })
-}
-
-// The length once the last group is whole. None where it is so already.
-fn padded(len: Pos, shape: Shape) -> Option<Pos> {
-    let part = part_of(len, shape);
-    if part == 0 {
-        return None;
-    }
-    let lack = Pos::from(shape.group).checked_sub(part)?;
-    len.checked_add(lack)
-}
-
-// Where an event leads. None where it may not happen, or doesn't come in these runs.
-fn after(course: Course, event: Event, shape: Shape) -> Option<Course> {
-    match event {
-        Event::Begin { client } => {
-            let side = begun(side_of(course, client)?)?;
-            Some(with_side(course, client, side))
-        }
-        Event::Append { client } => {
-            if course.len >= shape.cap {
-                return None;
-            }
-            let len = course.len + 1;
-            let side = appended(side_of(course, client)?, len)?;
-            Some(with_side(Course { len, ..course }, client, side))
-        }
-        Event::Publish { server, upto } => {
-            let side = published(side_of(course, server)?, upto, course.len, shape)?;
-            Some(with_side(course, server, side))
-        }
-        Event::Pad { server } => {
-            let _ = side_of(course, server)?;
-            let len = padded(course.len, shape)?;
-            Some(Course { len, ..course })
-        }
-        Event::End { .. } | Event::Refuse { .. } | Event::Stop { .. } => None,
-    }
-}
-
-// Where a trace leads from an empty log. None where one of its events may not happen.
-fn course_of(shape: Shape, trace: &[Event]) -> Option<Course> {
-    let mut course = Course {
-        len: 0,
-        one: AT_FIRST,
-        two: AT_FIRST,
-    };
-    for event in trace {
-        course = after(course, *event, shape)?;
-    }
-    Some(course)
-}
-
 fn count_of(trace: &[Event], wanted: Event) -> usize {
     trace.iter().filter(|event| **event == wanted).count()
 }
@@ -778,20 +659,5 @@ fn two_threads_run_their_clients(rt: HostRuntime) -> Result<(), Fail> {
     for side in [course.one, course.two] {
         assert!(rt; side.left == 0 && !side.runs && side.board >= side.last);
     }
-    Ok(())
-}
-
-#[test]
-fn a_trace_out_of_order_is_not_legal(rt: HostRuntime) -> Result<(), Fail> {
-    let begin = Event::Begin { client: 1 };
-    let append = Event::Append { client: 1 };
-    let publish = Event::Publish { server: 1, upto: 1 };
-    assert!(rt; course_of(SHAPE, &[begin, append, publish, begin]).is_some());
-    assert!(rt; course_of(SHAPE, &[begin, begin]).is_none());
-    assert!(rt; course_of(SHAPE, &[append]).is_none());
-    assert!(rt; course_of(SHAPE, &[begin, append, begin]).is_none());
-    assert!(rt; course_of(SHAPE, &[begin, publish]).is_none());
-    assert!(rt; course_of(SHAPE, &[begin, append, publish, publish]).is_none());
-    assert!(rt; course_of(SHAPE, &[Event::Pad { server: 1 }]).is_none());
     Ok(())
 }

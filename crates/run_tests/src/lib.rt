@@ -6,6 +6,8 @@
 #[cfg(test)]
 mod calls;
 #[cfg(test)]
+mod courses;
+#[cfg(test)]
 mod failures;
 #[cfg(test)]
 mod history;
@@ -25,6 +27,8 @@ mod simulated_stops;
 mod simulations;
 #[cfg(test)]
 mod slow;
+#[cfg(test)]
+mod slow_disk;
 #[cfg(test)]
 mod stopped_log;
 #[cfg(test)]
