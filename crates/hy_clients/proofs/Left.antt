@@ -118,7 +118,7 @@ module _ {D : Type 0} {tells : Bool} {content : D → Content} {leaves : D → (
         let mine = closed.entries_are in
         record {
           batch = torn.batch;
-          size = torn.size;
+          few = torn.few;
           lawful = subst (λ (l : List EntryKind). IsLawful script.shape (l ++ torn.batch)) mine (subst (λ (s : Shape). IsLawful s (entries ++ torn.batch)) here torn.lawful);
           sound = torn.sound;
           left = λ image is. subst (λ (s : Shape). HoldsUpTo s log.bodies (map spelling torn.batch) image) here (torn.left image is);

@@ -1,5 +1,5 @@
 -- What a crash since the hub was made might have left, as the log goes on.
-use Rattle.std.proofs.Common.{◌≡◌, ◌⊎◌, ℕ, ◌≤◌, List, [], ◌++◌, length, map, take, ap, sym, ◌∙◌, subst, inl, inr, ⊎_elim, arith, length-append}
+use Rattle.std.proofs.Common.{◌≡◌, ℕ, ◌≤◌, List, [], ◌++◌, length, map, take, ap, sym, ◌∙◌, subst, inl, inr, ⊎_elim, arith, length-append}
 use Rattle.std.proofs.lemmas.List.{append-nil, map-append, take-append-le}
 use Rattle.std.proofs.Math.Seq.{take-append_seam}
 use Rattle.hy_base.specs.declared.layout.Shape.{Shape}
@@ -67,9 +67,3 @@ module _ (s : Shape) (least : ℕ) (entries batch : List EntryKind) (few : least
   upto_torn = ⊎_elim
       (λ (h : Holds s (map spelling entries) image). inl (stood_whole s least entries few image h))
       (λ (h : Holds s (map spelling entries ++ map spelling batch) image). inr (subst (λ (l : List (List ℕ)). Holds s l image) (sym (map-append spelling entries batch)) h))
-
--- Of a batch that was laid down and may be committed a crash leaves nothing, or all.
-pub widened : (s : Shape) (bodies : List (List ℕ)) (all batch : List EntryKind) (image : List ℕ) → (all ≡ batch) ⊎ (batch ≡ []) → HoldsUpTo s bodies (map spelling batch) image → HoldsUpTo s bodies (map spelling all) image
-widened s bodies all batch image (inl same) holds = subst (λ (es : List EntryKind). HoldsUpTo s bodies (map spelling es) image) (sym same) holds
-widened s bodies all batch image (inr none) (inl holds) = inl holds
-widened s bodies all batch image (inr none) (inr holds) = inl (subst (λ (bs : List (List ℕ)). Holds s bs image) (ap (λ (es : List EntryKind). bodies ++ map spelling es) none ∙ append-nil bodies) holds)
