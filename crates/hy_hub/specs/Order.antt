@@ -1,0 +1,32 @@
+-- Where occurrences stand in the hub's list.
+use Rattle.std.specs.Prelude.{◌≡◌, true, List, [], ◌∷◌, ◌++◌, None, Some, ⊤}
+use Rattle.hy_hub.specs.declared.occurrence.Occurrence.{Occurrence}
+use Rattle.hy_hub.specs.declared.occurrence.Occurrence.TheVariants.{Opened, Happened, Halted, Lifted, Landed}
+use Rattle.hy_hub.specs.declared.occurrence.Batch.{Batch}
+use Rattle.hy_hub.specs.Trace.{halt_of, flight_of, is_out, events_told}
+use Rattle.hy_hub.specs.Appends.{IsHalt}
+
+-- An event is one of those of the batch that was out. They stand in their order, right before its landing.
+pub record IsOfBatch (before : List Occurrence) (event : Occurrence) (after : List Occurrence) : Type 0 where
+  pub list : List Occurrence
+  pub batch : Batch
+  pub out : flight_of list ≡ Some batch
+  pub first : List Occurrence
+  pub others : List Occurrence
+  pub events : events_told batch ≡ first ++ (event ∷ others)
+  pub behind : List Occurrence
+  pub before_is : before ≡ list ++ first
+  pub after_is : after ≡ others ++ (Landed ∷ behind)
+
+-- An event that adds entries is one of the batch that was out. The device is lifted where it is home and the log runs; it fails, and lands, where it is out; and where it failed it lands at once.
+abbrev pub StandsInOrder : List Occurrence → Occurrence → List Occurrence → Type 0
+StandsInOrder before (Opened o) after = ⊤
+StandsInOrder before (Happened event []) after = ⊤
+StandsInOrder before (Happened event (entry ∷ entries)) after = IsOfBatch before (Happened event (entry ∷ entries)) after
+StandsInOrder before (Halted at risen) after = IsHalt before (Halted at risen ∷ []) × ((behind : List Occurrence) × (after ≡ Landed ∷ behind))
+StandsInOrder before (Lifted batch) after = (flight_of before ≡ None) × (halt_of before ≡ None)
+StandsInOrder before Landed after = is_out before ≡ true
+
+-- So does each occurrence of a list, by what stands before and behind it.
+abbrev pub AreInOrder : List Occurrence → Type 0
+AreInOrder list = (before : List Occurrence) (occurrence : Occurrence) (after : List Occurrence) → list ≡ before ++ (occurrence ∷ after) → StandsInOrder before occurrence after
