@@ -24,7 +24,7 @@ use Rattle.hy_hub.specs.declared.occurrence.Occurrence.{Occurrence}
 use Rattle.hy_hub.specs.declared.occurrence.Occurrence.TheVariants.{Opened}
 use Rattle.hy_hub.specs.Past.{HasStood}
 use Rattle.hy_hub.specs.Calls.{events_in_list}
-use Rattle.hy_hub.specs.Trace.{setting_in, state_after, faults_at_opening, after_all}
+use Rattle.hy_hub.specs.Trace.{setting_in, state_after, faults_at_opening, failed_entries, after_all}
 use Rattle.hy_hub.specs.Hub.{IsBoard, IsHubHistory, IsTornLog}
 use Rattle.hy_hub.specs.Close.{IsClosed}
 use Rattle.hy_hub.specs.Initial.{IsInitial}
@@ -113,17 +113,17 @@ module _ {D : Type 0} {tells : Bool} {content : D → Content} {leaves : D → (
       torn = torn;
     }
 
-    behind : IsTornLog content leaves least log entries → IsTornBehind content leaves script.shape (opened_log list) (state_after list).log log
+    behind : IsTornLog content leaves least (failed_entries list) log entries → IsTornBehind content leaves script.shape (opened_log list) (state_after list).log log
     behind torn =
         let mine = closed.entries_are in
         record {
-          batch = torn.batch;
+          batch = failed_entries list;
           few = torn.few;
-          lawful = subst (λ (l : List EntryKind). IsLawful script.shape (l ++ torn.batch)) mine (subst (λ (s : Shape). IsLawful s (entries ++ torn.batch)) here torn.lawful);
+          lawful = subst (λ (l : List EntryKind). IsLawful script.shape (l ++ failed_entries list)) mine (subst (λ (s : Shape). IsLawful s (entries ++ failed_entries list)) here torn.lawful);
           sound = torn.sound;
-          left = λ image is. subst (λ (s : Shape). HoldsUpTo s log.bodies (map spelling torn.batch) image) here (torn.left image is);
-          past = subst (λ (n : ℕ). leaves log.disk (HasStood script.shape n (state_after list).log torn.batch)) found_is
-              (subst (λ (es : List EntryKind). leaves log.disk (HasStood script.shape least es torn.batch)) mine (subst (λ (z : Shape). leaves log.disk (HasStood z least entries torn.batch)) here torn.past));
+          left = λ image is. subst (λ (s : Shape). HoldsUpTo s log.bodies (map spelling (failed_entries list)) image) here (torn.left image is);
+          past = subst (λ (n : ℕ). leaves log.disk (HasStood script.shape n (state_after list).log (failed_entries list))) found_is
+              (subst (λ (es : List EntryKind). leaves log.disk (HasStood script.shape least es (failed_entries list))) mine (subst (λ (z : Shape). leaves log.disk (HasStood z least entries (failed_entries list))) here torn.past));
         }
 
     pub cut_short : IsCutShort tells content leaves script (opened_log list) log

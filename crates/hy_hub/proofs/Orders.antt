@@ -74,7 +74,7 @@ order_first o = order_one [] (Opened o) (λ before x after e. absurd (omega (ari
 
 -- ---- a landing
 
-is_event : Occurrence → Bool
+abbrev is_event : Occurrence → Bool
 is_event (Opened o) = false
 is_event (Happened event added) = true
 is_event (Halted at risen) = false

@@ -1,0 +1,98 @@
+use Rattle.std.proofs.Common.{◌≡◌, ◌++◌, List, Some, ap, sym, subst, refl, ◌∙◌}
+use Rattle.std.specs.Prelude.{Ok, None}
+use mathlib.Core.List.{IsPrefix}
+use Rattle.hy_hist.proofs.Lists.{prefix_trans}
+use Rattle.hy_hub.specs.declared.occurrence.Occurrence.{Occurrence}
+use Rattle.hy_hub.specs.Trace.{is_out, halt_of}
+use Rattle.hy_hub.proofs.Flying.{flown_later, lands_home, lifts_grow, leaves_is, home_lands, lift_some, lift_stays, lift_within}
+use Rattle.hy_hub.proofs.Holding.{same_done}
+use Rattle.hy_hub.proofs.Marks.{done_lift}
+use Rattle.hy_disk.specs.Moments.{LeavesSince}
+use Rattle.hy_hub.proofs.hub.Hub.land_others.Goals as goal
+
+pub land_written-requires-clause-flown : goal.land_written-requires-clause-flown
+land_written-requires-clause-flown g c =
+    let h = c.hold-contents.ensures in
+    rw h.list (flown_later g.D.Disk.tells g.D.Disk.content (LeavesSince g.D.Disk.moment g.D.Disk.left_since g.B.Since.moment g.B.Since.left) g.B.Since.least g.D.Disk.faults_of c.args.pass.now.seen c.hold-contents.new.pass.seen c.args.flight.log _ (lift_some c.args.flight.lift c.args.pass.now.seen c.requires.lift) h.grown (h.part c.requires.pass.2).1 c.requires.flown)
+
+pub lift_again-lifted-requires : goal.lift_again-lifted-requires
+lift_again-lifted-requires g c =
+    let lands = c.land_written.ensures.lands in
+    record { running = (home_lands c.args.at c.hold-contents.result lands.0 c.land_written.new.self lands.1 lands.2).1 }
+
+pub come_home-requires-clause-mine : goal.come_home-requires-clause-mine
+come_home-requires-clause-mine g c =
+    let h = c.hold-contents.ensures in
+    let lands = c.land_written.ensures.lands in
+    let past : IsPrefix c.args.pass.now.seen c.land_written.new.self = prefix_trans c.args.pass.now.seen c.hold-contents.new.pass.seen c.land_written.new.self h.grown (lands.0, ap (λ l. l ++ lands.0) (sym h.list) ∙ sym lands.1) in
+    lift_within c.args.flight.lift c.args.pass.now.seen c.land_written.new.self past c.requires.lift
+
+pub come_home-requires-2-clause-grown : goal.come_home-requires-2-clause-grown
+come_home-requires-2-clause-grown g c =
+    let h = c.hold-contents.ensures in
+    let lands = c.land_written.ensures.lands in
+    let lifts = lifts_grow g.D.Disk.tells (LeavesSince g.D.Disk.moment g.D.Disk.left_since g.B.Since.moment g.B.Since.left) g.B.Since.least g.D.Disk.faults_of c.land_written.new.self c.lift_again-lifted.new.self c.lift_again-lifted.result c.lift_again-lifted.ensures.lifts in
+    prefix_trans c.hold-contents.new.pass.seen c.land_written.new.self c.lift_again-lifted.new.self (lands.0, ap (λ l. l ++ lands.0) (sym h.list) ∙ sym lands.1) lifts
+
+pub come_home-requires-2-clause-mine : goal.come_home-requires-2-clause-mine
+come_home-requires-2-clause-mine g c =
+    let h = c.hold-contents.ensures in
+    let lands = c.land_written.ensures.lands in
+    let past : IsPrefix c.args.pass.now.seen c.land_written.new.self = prefix_trans c.args.pass.now.seen c.hold-contents.new.pass.seen c.land_written.new.self h.grown (lands.0, ap (λ l. l ++ lands.0) (sym h.list) ∙ sym lands.1) in
+    let lifts = lifts_grow g.D.Disk.tells (LeavesSince g.D.Disk.moment g.D.Disk.left_since g.B.Since.moment g.B.Since.left) g.B.Since.least g.D.Disk.faults_of c.land_written.new.self c.lift_again-lifted.new.self c.lift_again-lifted.result c.lift_again-lifted.ensures.lifts in
+    lift_within c.args.flight.lift c.args.pass.now.seen c.lift_again-lifted.new.self (prefix_trans c.args.pass.now.seen c.land_written.new.self c.lift_again-lifted.new.self past lifts) c.requires.lift
+
+pub returns-then-not-goes_on : goal.returns-then-not-goes_on
+returns-then-not-goes_on g c =
+    let h = c.hold-contents.ensures in
+    let p = c.come_home.ensures in
+    let lands = c.land_written.ensures.lands in
+    let home = c.land_written.new.self in
+    let both = home_lands c.args.at c.hold-contents.result lands.0 home lands.1 lands.2 in
+    let landed = ap is_out lands.1 ∙ lands_home (Ok c.args.at) c.hold-contents.result lands.0 lands.2 in
+    let more : IsPrefix c.hold-contents.new.pass.seen home = (lands.0, ap (λ l. l ++ lands.0) (sym h.list) ∙ sym lands.1) in
+    let longer : IsPrefix c.hold-contents.new.pass.seen c.come_home.new.pass.seen = subst (λ (l : List Occurrence). IsPrefix c.hold-contents.new.pass.seen l) (sym p.seen) more in
+    let at = lift_stays c.args.flight.lift c.args.pass.now.seen c.come_home.new.pass.seen (prefix_trans c.args.pass.now.seen c.hold-contents.new.pass.seen c.come_home.new.pass.seen h.grown longer) c.requires.lift in
+    record {
+      lands = record {
+        home = home;
+        past = prefix_trans c.args.pass.now.seen c.hold-contents.new.pass.seen home h.grown more;
+        landed = both.0;
+        running = both.1;
+        leaves_it = ((p.kept.0 ∙ (h.kept.0 ∙ c.requires.pass.0), p.idle, p.carries ∙ landed), p.seen);
+        told = p.told;
+        parts = p.kept.1 ∙ h.kept.1;
+      };
+      makes = done_lift c.hold-contents.new.pass c.come_home.new.pass longer c.args.flight.lift at.0 at.1 p.order ∙ same_done c.args.pass.now c.hold-contents.new.pass h.made;
+      last = λ e. refl;
+    }
+
+pub returns-clause-lands : goal.returns-clause-lands
+returns-clause-lands g c =
+    let h = c.hold-contents.ensures in
+    let p = c.come_home-2.ensures in
+    let lands = c.land_written.ensures.lands in
+    let home = c.land_written.new.self in
+    let both = home_lands c.args.at c.hold-contents.result lands.0 home lands.1 lands.2 in
+    let landed = ap is_out lands.1 ∙ lands_home (Ok c.args.at) c.hold-contents.result lands.0 lands.2 in
+    record {
+      home = home;
+      past = prefix_trans c.args.pass.now.seen c.hold-contents.new.pass.seen home h.grown (lands.0, ap (λ l. l ++ lands.0) (sym h.list) ∙ sym lands.1);
+      landed = both.0;
+      running = both.1;
+      leaves_it = leaves_is g.D.Disk.tells (LeavesSince g.D.Disk.moment g.D.Disk.left_since g.B.Since.moment g.B.Since.left) g.B.Since.least g.D.Disk.faults_of c.args.self.now c.lift_again-lifted.result c.come_home-2.new.pass home c.lift_again-lifted.new.self (p.kept.0 ∙ (h.kept.0 ∙ c.requires.pass.0)) p.idle landed p.seen p.carries c.lift_again-lifted.ensures.lifts;
+      told = p.told;
+      parts = p.kept.1 ∙ h.kept.1;
+    }
+
+pub returns-clause-makes : goal.returns-clause-makes
+returns-clause-makes g c =
+    let h = c.hold-contents.ensures in
+    let p = c.come_home-2.ensures in
+    let lands = c.land_written.ensures.lands in
+    let home = c.land_written.new.self in
+    let more : IsPrefix c.hold-contents.new.pass.seen home = (lands.0, ap (λ l. l ++ lands.0) (sym h.list) ∙ sym lands.1) in
+    let lifts = lifts_grow g.D.Disk.tells (LeavesSince g.D.Disk.moment g.D.Disk.left_since g.B.Since.moment g.B.Since.left) g.B.Since.least g.D.Disk.faults_of home c.lift_again-lifted.new.self c.lift_again-lifted.result c.lift_again-lifted.ensures.lifts in
+    let longer : IsPrefix c.hold-contents.new.pass.seen c.come_home-2.new.pass.seen = subst (λ (l : List Occurrence). IsPrefix c.hold-contents.new.pass.seen l) (sym p.seen) (prefix_trans c.hold-contents.new.pass.seen home c.lift_again-lifted.new.self more lifts) in
+    let at = lift_stays c.args.flight.lift c.args.pass.now.seen c.come_home-2.new.pass.seen (prefix_trans c.args.pass.now.seen c.hold-contents.new.pass.seen c.come_home-2.new.pass.seen h.grown longer) c.requires.lift in
+    done_lift c.hold-contents.new.pass c.come_home-2.new.pass longer c.args.flight.lift at.0 at.1 p.order ∙ same_done c.args.pass.now c.hold-contents.new.pass h.made
