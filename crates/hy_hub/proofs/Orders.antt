@@ -12,7 +12,9 @@ use Rattle.hy_hub.specs.declared.occurrence.Batch.{Batch}
 use Rattle.hy_hub.specs.declared.occurrence.Batch.TheVariants.{Appends, Fillers}
 use Rattle.hy_hub.specs.Trace.{halt_of, flight_of, flight_since, is_out, events_told, asked_event, batch_entries, failed_from, failed_entries, entries_of_lift}
 use Rattle.hy_hub.specs.Appends.{IsHalt}
-use Rattle.hy_hub.specs.Order.{AreInOrder, StandsInOrder}
+use Rattle.hy_base.specs.declared.workload.Event.{Event}
+use Rattle.hy_hub.specs.Additions.{Additions}
+use Rattle.hy_hub.specs.Order.{AreInOrder, StandsInOrder, StandsAsAdded, IsOfBatch}
 use Rattle.hy_hub.proofs.Told.{flight_more}
 
 -- an item of two lists, one behind the other, is one of the first or one of the second
@@ -33,11 +35,10 @@ split (y ∷ xs) more (b ∷ before) x after e =
     let rest : xs ++ more ≡ before ++ (x ∷ after) = cc e in
     ⊎_elim (λ (r : IsInFirst xs more before x after). inl (r.0, (λ i. same i ∷ r.1 i), r.2)) (λ (r : IsInSecond xs more before x after). inr (r.0, (λ i. sym same i ∷ r.1 i), r.2)) (split xs more before x after rest)
 
--- one stands in order as the list goes on
-stands_more : (before : List Occurrence) (x : Occurrence) (after more : List Occurrence) → StandsInOrder before x after → StandsInOrder before x (after ++ more)
-stands_more before (Opened o) after more is = tt
-stands_more before (Happened event []) after more is = tt
-stands_more before (Happened event (e ∷ es)) after more is = record {
+-- an event of a batch is one as the list goes on
+added_more : (es : List EntryKind) (before : List Occurrence) (x : Occurrence) (after more : List Occurrence) → StandsAsAdded es before x after → StandsAsAdded es before x (after ++ more)
+added_more [] before x after more is = tt
+added_more (e ∷ es) before x after more is = record {
   list = is.list;
   batch = is.batch;
   out = is.out;
@@ -48,6 +49,19 @@ stands_more before (Happened event (e ∷ es)) after more is = record {
   before_is = is.before_is;
   after_is = ap (λ l. l ++ more) is.after_is ∙ append_assoc is.others (Landed ∷ is.behind) more;
 }
+
+as_added : (es : List EntryKind) (before : List Occurrence) (x : Occurrence) (after : List Occurrence) → IsOfBatch before x after → StandsAsAdded es before x after
+as_added [] before x after is = tt
+as_added (e ∷ es) before x after is = is
+
+-- an event that adds none may stand anywhere
+pub none_stands : (event : Event) (added : Additions) (before : List Occurrence) → added.entries ≡ [] → StandsInOrder before (Happened event added) []
+none_stands event added before none = subst (λ (es : List EntryKind). StandsAsAdded es before (Happened event added) []) (sym none) tt
+
+-- one stands in order as the list goes on
+stands_more : (before : List Occurrence) (x : Occurrence) (after more : List Occurrence) → StandsInOrder before x after → StandsInOrder before x (after ++ more)
+stands_more before (Opened o) after more is = tt
+stands_more before (Happened event added) after more is = added_more added.entries before (Happened event added) after more is
 stands_more before (Halted at risen) after more is = (is.0, (is.1.0 ++ more, ap (λ l. l ++ more) is.1.1))
 stands_more before (Lifted batch) after more is = is
 stands_more before Landed after more is = is
@@ -104,8 +118,7 @@ flight_events out (Landed ∷ xs) all = absurd (cc (all.0))
 
 event_stands : (list front rest : List Occurrence) (batch : Batch) (x : Occurrence) → is_event x ≡ true → flight_of list ≡ Some batch → events_told batch ≡ front ++ (x ∷ rest) → StandsInOrder (list ++ front) x (rest ++ Landed ∷ [])
 event_stands list front rest batch (Opened o) event out told = tt
-event_stands list front rest batch (Happened e []) event out told = tt
-event_stands list front rest batch (Happened e (a ∷ added)) event out told = record {
+event_stands list front rest batch (Happened e added) event out told = as_added added.entries (list ++ front) (Happened e added) (rest ++ Landed ∷ []) (record {
   list = list;
   batch = batch;
   out = out;
@@ -115,7 +128,7 @@ event_stands list front rest batch (Happened e (a ∷ added)) event out told = r
   behind = [];
   before_is = refl;
   after_is = refl;
-}
+})
 event_stands list front rest batch (Halted at risen) event out told = absurd (cc event)
 event_stands list front rest batch (Lifted b) event out told = absurd (cc event)
 event_stands list front rest batch Landed event out told = absurd (cc event)

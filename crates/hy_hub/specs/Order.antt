@@ -1,5 +1,6 @@
 -- Where occurrences stand in the hub's list.
 use Rattle.std.specs.Prelude.{◌≡◌, true, List, [], ◌∷◌, ◌++◌, None, Some, ⊤}
+use Rattle.hy_base.specs.declared.record.EntryKind.{EntryKind}
 use Rattle.hy_hub.specs.declared.occurrence.Occurrence.{Occurrence}
 use Rattle.hy_hub.specs.declared.occurrence.Occurrence.TheVariants.{Opened, Happened, Halted, Lifted, Landed}
 use Rattle.hy_hub.specs.declared.occurrence.Batch.{Batch}
@@ -18,11 +19,15 @@ pub record IsOfBatch (before : List Occurrence) (event : Occurrence) (after : Li
   pub before_is : before ≡ list ++ first
   pub after_is : after ≡ others ++ (Landed ∷ behind)
 
+-- an event that adds such entries is one of a batch
+abbrev pub StandsAsAdded : List EntryKind → List Occurrence → Occurrence → List Occurrence → Type 0
+StandsAsAdded [] before event after = ⊤
+StandsAsAdded (entry ∷ entries) before event after = IsOfBatch before event after
+
 -- An event that adds entries is one of the batch that was out. The device is lifted where it is home and the log runs; it fails, and lands, where it is out; and where it failed it lands at once.
 abbrev pub StandsInOrder : List Occurrence → Occurrence → List Occurrence → Type 0
 StandsInOrder before (Opened o) after = ⊤
-StandsInOrder before (Happened event []) after = ⊤
-StandsInOrder before (Happened event (entry ∷ entries)) after = IsOfBatch before (Happened event (entry ∷ entries)) after
+StandsInOrder before (Happened event added) after = StandsAsAdded added.entries before (Happened event added) after
 StandsInOrder before (Halted at risen) after = IsHalt before (Halted at risen ∷ []) × ((behind : List Occurrence) × (after ≡ Landed ∷ behind))
 StandsInOrder before (Lifted batch) after = (flight_of before ≡ None) × (halt_of before ≡ None)
 StandsInOrder before Landed after = is_out before ≡ true
