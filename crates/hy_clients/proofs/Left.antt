@@ -1,7 +1,7 @@
 -- What is left of a run when its hub is closed.
-use Rattle.std.proofs.Common.{◌≡◌, ◌≢◌, ℕ, ◌+◌, ◌≤◌, Bool, true, false, IsTrue, List, [], ◌∷◌, ◌++◌, length, get_or, take, map, None, refl, ap, sym, ◌∙◌, subst, arith, length-append}
-use Rattle.std.specs.Prelude.{All, ◌==◌}
-use Rattle.std.specs.List.{list_all, list_any}
+use Rattle.std.proofs.Common.{◌≡◌, ◌≢◌, ℕ, ◌+◌, ◌≤◌, Bool, true, false, IsTrue, List, [], ◌∷◌, ◌++◌, length, get_or, take, map, Some, None, inl, inr, refl, ap, sym, ◌∙◌, subst, arith, length-append}
+use Rattle.std.specs.Prelude.{All, Option, ◌==◌}
+use Rattle.std.specs.List.{AllByRecursion, list_all, list_any}
 use Rattle.std.proofs.lemmas.List.{take_all}
 use Rattle.std.proofs.lemmas.List.Elements.{All-nil, All-cons}
 use Rattle.std.proofs.lemmas.Bool.Decides.{nat_tests}
@@ -16,15 +16,23 @@ use Rattle.hy_disk.specs.Content.{Content}
 use Rattle.hy_log.specs.View.{LogView, HoldsUpTo}
 use Rattle.hy_formats.specs.EntryFormat.{spelling}
 use Rattle.hy_base.specs.declared.workload.Event.{Event}
-use Rattle.hy_rules.specs.Moves.{Setting, State, opening, is_stop}
+use Rattle.hy_rules.specs.Moves.{Setting, State, MayAdd, opening, is_stop}
 use Rattle.hy_rolling.specs.Rolling.{Roll, rolled_upto, Stands}
 use Rattle.hy_rules.specs.Runs.{setting_of as script_setting, opening_of}
 use Rattle.hy_hub.specs.Origin.{Origin}
 use Rattle.hy_hub.specs.declared.occurrence.Occurrence.{Occurrence}
-use Rattle.hy_hub.specs.declared.occurrence.Occurrence.TheVariants.{Opened}
+use Rattle.hy_hub.specs.declared.occurrence.Occurrence.TheVariants.{Opened, Lifted}
 use Rattle.hy_hub.specs.Past.{HasStood}
 use Rattle.hy_hub.specs.Calls.{events_in_list}
-use Rattle.hy_hub.specs.Trace.{setting_in, state_after, faults_at_opening, failed_entries, after_all}
+use Rattle.hy_hub.specs.Entries.{Asked}
+use Rattle.hy_hub.specs.declared.occurrence.Batch.{Batch}
+use Rattle.hy_hub.specs.declared.occurrence.Batch.TheVariants.{Appends, Fillers}
+use Rattle.hy_hub.specs.Order.{MayBeNext}
+use Rattle.hy_hub.proofs.Orders.{failed_before}
+use Rattle.hy_hub.proofs.Events.{events_join}
+use Rattle.hy_hub.proofs.Later.{first_moves}
+use Rattle.hy_base.specs.declared.workload.Event.TheVariants.{Append}
+use Rattle.hy_hub.specs.Trace.{setting, setting_in, state_after, faults_at_opening, failed_lift, failed_entries, entries_of_lift, batch_entries, events_told, asked_entry, asked_event, after_all, AreMoves}
 use Rattle.hy_hub.specs.Hub.{IsBoard, IsHubHistory, IsTornLog}
 use Rattle.hy_hub.specs.Close.{IsClosed}
 use Rattle.hy_hub.specs.Initial.{IsInitial}
@@ -33,7 +41,7 @@ use Rattle.hy_base.specs.declared.workload.Home.{Home}
 use Rattle.hy_hub.proofs.Told.{told_setting}
 use Rattle.hy_hub.proofs.Passing.{log_more}
 use Rattle.hy_clients.specs.Passing.{OpensStanding, opened_log}
-use Rattle.hy_clients.specs.Finished.{IsCutShort, IsTornBehind}
+use Rattle.hy_clients.specs.Finished.{IsCutShort, IsTornBehind, AreAsked, MayAllAdd}
 use Rattle.hy_rules.specs.Moves.{LeadTo}
 use Rattle.hy_clients.proofs.RunLaw.{moves_are, state_is}
 use Rattle.hy_clients.proofs.Running.{moves as moves_on, no_stops}
@@ -55,6 +63,29 @@ found_first list is =
     let t = is.told in
     let p : IsPrefix (Opened o ∷ []) list = (t.past, sym t.begins) in
     subst (λ (l : List EntryKind). IsPrefix l (state_after list).log) (sym (ap opened_log t.begins)) (log_more o [] list p)
+
+-- ---- the batch that failed
+
+-- none is asked at the opening
+pub none_asked : (script : Workload) (found : List EntryKind) (events : List Event) → AreAsked script found events []
+none_asked script found events = record { front = []; begins = (events, refl); state = opening_of script found; moves = refl; may = inl tt }
+
+-- the events of a batch that may be next are those of entries that may be added
+each_asked : (before : List Occurrence) (waiting : List Asked) → AllByRecursion (MayBeNext before) (map asked_event waiting) → AllByRecursion (λ entry. (client : ℕ) × MayAdd (setting_in before) (state_after before) (Append client) (entry ∷ [])) (map asked_entry waiting)
+each_asked before [] all = tt
+each_asked before (a ∷ waiting) all = ((a.client, all.0), each_asked before waiting all.1)
+
+may_all : (before : List Occurrence) (batch : Batch) → AllByRecursion (MayBeNext before) (events_told batch) → MayAllAdd (setting_in before) (state_after before) (batch_entries batch)
+may_all before (Appends waiting count ahead lifted) all = inl (each_asked before (take count waiting.value.items) all)
+may_all before (Fillers server count lifted) all = inr (server, all.0)
+
+-- a beginning of a list that isn't empty begins with its opening
+first_opened : (o : Origin) (past before more : List Occurrence) → Opened o ∷ past ≡ before ++ more → (before ≡ [] → ⊥) → (first : List Occurrence) × (before ≡ Opened o ∷ first) × (past ≡ first ++ more)
+first_opened o past [] more is some = absurd (some refl)
+first_opened o past (x ∷ before) more is some =
+    let same : x ≡ Opened o = cc is in
+    let rest : past ≡ before ++ more = cc is in
+    (before, ap (λ y. y ∷ before) same, rest)
 
 -- ---- a log that was cut short
 
@@ -95,7 +126,7 @@ module _ {D : Type 0} {tells : Bool} {content : D → Content} {leaves : D → (
     quiet = ap (list_any is_stop) (ap events_in_list closed.told.told.begins) ∙ no_stops (script_setting script) (opening (script_setting script) closed.told.opened.found) closed.told.told.past (moves_are script list closed.told same)
 
     -- the log, by what is left where it is stopped
-    cut_of : (IsTrue tells → log.stopped ≢ None → IsTornBehind content leaves script.shape (opened_log list) (state_after list).log log) → IsCutShort tells content leaves script (opened_log list) log
+    cut_of : (IsTrue tells → log.stopped ≢ None → IsTornBehind content leaves script (opened_log list) (events_in_list list) (state_after list).log log) → IsCutShort tells content leaves script (opened_log list) log
     cut_of torn = record {
       entries = (state_after list).log;
       begins = found_first list closed.told;
@@ -113,11 +144,39 @@ module _ {D : Type 0} {tells : Bool} {content : D → Content} {leaves : D → (
       torn = torn;
     }
 
-    behind : IsTornLog content leaves least (failed_entries list) log entries → IsTornBehind content leaves script.shape (opened_log list) (state_after list).log log
+    -- the batch of the lift that failed was asked
+    asked_of : (lift : Option (ℕ × Batch)) → failed_lift list ≡ lift → AreAsked script (opened_log list) (events_in_list list) (entries_of_lift lift)
+    asked_of None e = none_asked script (opened_log list) (events_in_list list)
+    asked_of (Some lift) e =
+        let w = script_setting script in
+        let o = closed.told.opened in
+        let start : State = opening w o.found in
+        let past = closed.told.told.past in
+        let there = failed_before list lift e in
+        let before = there.0 in
+        let more = Lifted lift.1 ∷ there.1 in
+        let cut = first_opened o past before more (sym closed.told.told.begins ∙ there.2) (λ none. absurd (cc (sym closed.told.told.begins ∙ (there.2 ∙ ap (λ l. l ++ more) none)))) in
+        let next = (closed.told.order before (Lifted lift.1) there.1 there.2).2 in
+        let set : setting o ≡ w = sym (told_setting o list _ _ closed.told.told) ∙ same in
+        let moves = first_moves w start cut.0 more (subst (AreMoves w start) cut.2 (moves_are script list closed.told same)) in
+        let state : state_after before ≡ after_all w start cut.0 = ap state_after cut.1 ∙ (λ i. after_all (set i) (opening (set i) o.found) cut.0) in
+        let set_is : setting_in before ≡ w = ap setting_in cut.1 ∙ set in
+        let events : events_in_list before ≡ events_in_list cut.0 = ap events_in_list cut.1 in
+        let found : opened_log list ≡ o.found = ap opened_log closed.told.told.begins in record {
+          front = events_in_list before;
+          begins = (events_in_list more, sym (events_join before more) ∙ ap events_in_list (sym there.2));
+          state = state_after before;
+          moves = subst (λ (f : List EntryKind). LeadTo w (opening w f) (events_in_list before) (state_after before)) (sym found)
+              (subst (λ (z : State). LeadTo w start (events_in_list before) z) (sym state) (subst (λ (es : List Event). LeadTo w start es (after_all w start cut.0)) (sym events) (moves_on w start cut.0 moves)));
+          may = subst (λ (v : Setting). MayAllAdd v (state_after before) (batch_entries lift.1)) set_is (may_all before lift.1 next);
+        }
+
+    behind : IsTornLog content leaves least (failed_entries list) log entries → IsTornBehind content leaves script (opened_log list) (events_in_list list) (state_after list).log log
     behind torn =
         let mine = closed.entries_are in
         record {
           batch = failed_entries list;
+          asked = asked_of (failed_lift list) refl;
           few = torn.few;
           lawful = subst (λ (l : List EntryKind). IsLawful script.shape (l ++ failed_entries list)) mine (subst (λ (s : Shape). IsLawful s (entries ++ failed_entries list)) here torn.lawful);
           sound = torn.sound;

@@ -10,7 +10,7 @@ use Rattle.hy_hub.specs.declared.occurrence.Occurrence.{Occurrence}
 use Rattle.hy_hub.specs.declared.occurrence.Occurrence.TheVariants.{Opened, Happened, Halted, Lifted, Landed}
 use Rattle.hy_hub.specs.declared.occurrence.Batch.{Batch}
 use Rattle.hy_hub.specs.declared.occurrence.Batch.TheVariants.{Appends, Fillers}
-use Rattle.hy_hub.specs.Trace.{halt_of, flight_of, flight_since, is_out, events_told, asked_event, batch_entries, failed_from, failed_entries, entries_of_lift}
+use Rattle.hy_hub.specs.Trace.{halt_of, flight_of, flight_since, is_out, events_told, asked_event, batch_entries, failed_from, failed_lift, failed_entries, entries_of_lift}
 use Rattle.hy_hub.specs.Appends.{IsHalt}
 use Rattle.hy_base.specs.declared.workload.Event.{Event}
 use Rattle.hy_hub.specs.Additions.{Additions}
@@ -203,3 +203,23 @@ failed_at k last out (Landed ∷ xs) at risen more batch link calm is = failed_a
 
 pub failed_is : (list : List Occurrence) (batch : Batch) (at risen : ℕ) (more : List Occurrence) → halt_of list ≡ None → flight_of list ≡ Some batch → failed_entries (list ++ (Halted at risen ∷ more)) ≡ batch_entries batch
 failed_is list batch at risen more calm out = ap entries_of_lift (failed_at 0 None None list at risen more batch (λ b e. absurd (cc e)) calm out).1
+
+-- the lift of that batch stands in the list
+abbrev IsLiftIn : List Occurrence → Batch → Type 0
+IsLiftIn xs batch = (before : List Occurrence) × (after : List Occurrence) × (xs ≡ before ++ (Lifted batch ∷ after))
+
+one_behind : (x : Occurrence) (last : Option (ℕ × Batch)) (lift : ℕ × Batch) (xs : List Occurrence) → (last ≡ Some lift) ⊎ IsLiftIn xs lift.1 → (last ≡ Some lift) ⊎ IsLiftIn (x ∷ xs) lift.1
+one_behind x last lift xs found = ⊎_elim (λ (e : last ≡ Some lift). inl e) (λ (r : IsLiftIn xs lift.1). inr (x ∷ r.0, r.1, ap (λ l. x ∷ l) r.2)) found
+
+failed_lifted : (n : ℕ) (last : Option (ℕ × Batch)) (xs : List Occurrence) (lift : ℕ × Batch) → failed_from n last xs ≡ Some lift → (last ≡ Some lift) ⊎ IsLiftIn xs lift.1
+failed_lifted n last [] lift e = absurd (cc e)
+failed_lifted n last (Opened o ∷ xs) lift e = one_behind (Opened o) last lift xs (failed_lifted (suc n) last xs lift e)
+failed_lifted n last (Happened event added ∷ xs) lift e = one_behind (Happened event added) last lift xs (failed_lifted (suc n) last xs lift e)
+failed_lifted n last (Halted at risen ∷ xs) lift e = inl e
+failed_lifted n last (Lifted next ∷ xs) lift e =
+    ⊎_elim (λ (is : Some (n, next) ≡ Some lift). let same : next ≡ lift.1 = cc is in inr ([], xs, ap (λ (b : Batch). Lifted b ∷ xs) same)) (λ (r : IsLiftIn xs lift.1). inr (Lifted next ∷ r.0, r.1, ap (λ l. Lifted next ∷ l) r.2))
+    (failed_lifted (suc n) (Some (n, next)) xs lift e)
+failed_lifted n last (Landed ∷ xs) lift e = one_behind Landed last lift xs (failed_lifted (suc n) last xs lift e)
+
+pub failed_before : (list : List Occurrence) (lift : ℕ × Batch) → failed_lift list ≡ Some lift → (before : List Occurrence) × (after : List Occurrence) × (list ≡ before ++ (Lifted lift.1 ∷ after))
+failed_before list lift e = ⊎_elim (λ (wrong : None ≡ Some lift). absurd (cc wrong)) (λ (r : IsLiftIn list lift.1). r) (failed_lifted 0 None list lift e)

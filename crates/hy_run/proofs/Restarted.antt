@@ -121,6 +121,7 @@ module _ {D : Type 0} (tells : Bool) (content : D → Content) (moment : D → �
     calm = p.calm;
     lawful = p.lawful;
     few = p.few;
+    asked = p.asked;
     no_batch = λ never. p.no_batch (λ rose. never (let r = rose in omega (arith, later, r)));
     text_is = IfOk-weaker text _ _ (λ v is. record { finished = is.finished; no_batch = is.no_batch; results = is.results; told = is.told; text_is = is.text_is; saved = is.saved }) p.text_is;
     cause = IfErr-weaker text _ _ (fault_then script.shape bodies) p.cause;

@@ -1,6 +1,6 @@
 -- What becomes of the log and of the saved point in a call, told once for every command and every answer.
-use Rattle.std.specs.Prelude.{◌≡◌, ◌⊎◌, ℕ, ◌≤◌, false, true, ◌||◌, IsTrue, List, [], ◌++◌, length, map, take, Option, Some, None, Ok, ⊤}
-use Rattle.std.specs.List.{list_any}
+use Rattle.std.specs.Prelude.{◌≡◌, ◌⊎◌, ℕ, ◌≤◌, false, true, ◌||◌, IsTrue, List, [], ◌∷◌, ◌++◌, length, map, take, Option, Some, None, Ok, ⊤}
+use Rattle.std.specs.List.{AllByRecursion, list_any}
 use mathlib.Core.List.{IsPrefix}
 use Rattle.hy_base.specs.declared.layout.Shape.{Shape}
 use Rattle.hy_base.specs.declared.record.EntryKind.{EntryKind}
@@ -14,7 +14,8 @@ use Rattle.hy_formats.specs.LogFormat.{largest_batch}
 use Rattle.hy_formats.specs.Opening.{outcome}
 use Rattle.hy_formats.specs.Restarting.{IsStart}
 use Rattle.hy_formats.specs.declared.damage.LogPlace.TheVariants.{Page, Entry}
-use Rattle.hy_rules.specs.Moves.{State, LeadTo, is_stop}
+use Rattle.hy_base.specs.declared.workload.Event.TheVariants.{Append, Pad}
+use Rattle.hy_rules.specs.Moves.{State, LeadTo, MayAdd, is_stop}
 use Rattle.hy_rules.specs.Recovery.{recovered}
 use Rattle.hy_rules.specs.Runs.{is_finished, opening_of, setting_of}
 use Rattle.hy_rules.specs.SavedPoints.{IsFit, IsLeftBySave, StandsIfAny}
@@ -56,7 +57,15 @@ acked_by unopened = 0
 acked_by (opened shape bodies) = length bodies
 acked_by (grown g) = length g.end.log
 
--- Moves of the script's clients that are no stops lead from the log that was found to one that begins with it. That and the batch are lawful together, and there is a batch only where the device failed.
+-- Clients asked to append the entries of the batch, each by itself, or a pad to complete the last group with them, in a state on the way.
+pub record WereAsked (g : Growth) : Type 0 where
+  pub front : List Event
+  pub begins : IsPrefix front g.events
+  pub state : State
+  pub moves : LeadTo (setting_of g.script) (opening_of g.script g.found) front state
+  pub may : AllByRecursion (λ entry. (client : ℕ) × MayAdd (setting_of g.script) state (Append client) (entry ∷ [])) g.batch ⊎ ((server : ℕ) × MayAdd (setting_of g.script) state (Pad server) g.batch)
+
+-- Moves of the script's clients that are no stops lead from the log that was found to one that begins with it. That and the batch are lawful together. There is a batch only where the device failed, and it was asked on the way.
 pub record IsGrowth (log : Over) (g : Growth) : Type 0 where
   pub was_found : IsTrue log.tells → HasFound log.before.seen g.script.shape g.found
   pub begins : IsPrefix g.found g.end.log
@@ -64,6 +73,7 @@ pub record IsGrowth (log : Over) (g : Growth) : Type 0 where
   pub calm : list_any is_stop g.events ≡ false
   pub lawful : IsLawful g.script.shape (g.end.log ++ g.batch)
   pub few : length g.batch ≤ largest_batch
+  pub asked : WereAsked g
   pub no_batch : (HasFailed log → ⊥) → g.batch ≡ []
 
 -- the first so many of the entries of a growth, no fewer than were found
