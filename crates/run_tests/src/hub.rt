@@ -41,7 +41,7 @@ pub fn open_on<D: Disk + Drop>(alloc: Global, disk: D, shape: Shape) -> Result<P
     Ok(log)
 }
 
-/// A hub of two servers with a client each, which has three programs.
+/// A hub of two servers. The second client is at the second, the other four are at the first, and each has three programs.
 pub fn hub_on<D: Disk + Drop, B: Since>(
     alloc: Global,
     shape: Shape,
@@ -53,16 +53,15 @@ pub fn hub_on<D: Disk + Drop, B: Since>(
     ensures trial { IfOk result (λ r. IsTrial r.0 shape r.1) }
     ensures parts { IfOk result (λ r. (r.0.parts ≡ 129) × (r.1.parts ≡ 129)) }
 {
-    let homes = [
-        Home {
-            server: 1,
-            programs: 3,
-        },
-        Home {
-            server: 2,
-            programs: 3,
-        },
-    ];
+    let first = Home {
+        server: 1,
+        programs: 3,
+    };
+    let second = Home {
+        server: 2,
+        programs: 3,
+    };
+    let homes = [first, second, first, first, first];
     let start = Roller::new(alloc, shape)?;
     match Hub::new(alloc, log, Vec::new(alloc), start, 2, &homes) {
         Ok(made) => Ok(made),
@@ -80,9 +79,9 @@ fn start_on(alloc: Global, shape: Shape, disk: MemDisk) -> Result<Trial<SlowDisk
     hub_on::<SlowDisk, Brand>(alloc, shape, log)
 }
 
-// A put of a byte at key 1 by a client of the server with its number. None where memory runs out.
-fn put(alloc: Global, client: u8, snap: Pos, byte: u8) -> Option<Entry>
-    requires { IsWithin 1 2 client }
+/// A put of a byte at key 1 by a client at its server. None where memory runs out.
+pub fn put(alloc: Global, client: u8, snap: Pos, byte: u8) -> Option<Entry>
+    requires { IsWithin 1 5 client }
     ensures { IfSome result (IsPutOf client) }
 {
     let value = Value::new(vec![in alloc; byte; 1].ok()?).ok()?;
@@ -91,7 +90,7 @@ fn put(alloc: Global, client: u8, snap: Pos, byte: u8) -> Option<Entry>
         value: Some(value),
     };
     Some(Entry::transaction(Intention {
-        server: client,
+        server: if client == 2 { 2 } else { 1 },
         client,
         snap,
         points: Points::new(alloc),
@@ -109,7 +108,7 @@ fn begin<D: Disk, B: Since, R: Wait>(
     client: u8,
 ) -> Result<Begun, BeginRefusal>
     requires trial { IsTrial hub.now shape pass.old }
-    requires client { IsWithin 1 2 client }
+    requires client { IsWithin 1 5 client }
     ensures trial { IsTrial hub.now shape pass.new }
     ensures parts { pass.new.parts ≡ pass.old.parts }
 {
@@ -126,7 +125,7 @@ pub fn begins<D: Disk, B: Since, R: Wait>(
     client: u8,
 ) -> bool
     requires trial { IsTrial hub.now shape pass.old }
-    requires client { IsWithin 1 2 client }
+    requires client { IsWithin 1 5 client }
     ensures trial { IsTrial hub.now shape pass.new }
     ensures parts { pass.new.parts ≡ pass.old.parts }
 {
@@ -136,7 +135,8 @@ pub fn begins<D: Disk, B: Since, R: Wait>(
     is_begun
 }
 
-fn append<D: Disk, B: Since, R: Wait>(
+/// The client's entry is appended.
+pub fn append<D: Disk, B: Since, R: Wait>(
     rt: &R,
     shape: Shape,
     hub: &Hub<D, B>,
@@ -145,7 +145,7 @@ fn append<D: Disk, B: Since, R: Wait>(
     entry: Entry,
 ) -> Result<Pos, AppendRefusal>
     requires trial { IsTrial hub.now shape pass.old }
-    requires client { IsWithin 1 2 client }
+    requires client { IsWithin 1 5 client }
     requires own { IsPutOf client entry }
     ensures trial { IsTrial hub.now shape pass.new }
     ensures parts { pass.new.parts ≡ pass.old.parts }
@@ -177,7 +177,7 @@ fn catch_up<D: Disk, B: Since, R: Threads + Wait + Sync>(
 }
 
 /// How many writes and syncs the opening of a device without bytes takes.
-const OPENING: u64 = 7;
+pub const OPENING: u64 = 7;
 
 /// Groups of one.
 pub const SHAPE: Shape = Shape {
@@ -198,6 +198,13 @@ const FOURS: Shape = Shape {
     cap: 8,
 };
 
+/// Groups of five.
+pub const FIVES: Shape = Shape {
+    group: 5,
+    window: 1,
+    cap: 10,
+};
+
 const SMALL: Shape = Shape {
     group: 1,
     window: 1,
@@ -214,7 +221,7 @@ pub fn put_once<D: Disk, B: Since, R: Wait>(
     client: u8,
 ) -> Option<Result<Pos, AppendRefusal>>
     requires trial { IsTrial hub.now shape pass.old }
-    requires client { IsWithin 1 2 client }
+    requires client { IsWithin 1 5 client }
     ensures trial { IsTrial hub.now shape pass.new }
     ensures parts { pass.new.parts ≡ pass.old.parts }
 {

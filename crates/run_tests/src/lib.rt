@@ -22,6 +22,8 @@ mod roller;
 #[cfg(test)]
 mod runs;
 #[cfg(test)]
+mod signals;
+#[cfg(test)]
 mod simulated_stops;
 #[cfg(test)]
 mod simulations;

@@ -15,6 +15,7 @@ use hy_tree::Tree;
 use std::alloc::Global;
 use std::sync::atomic::{AtomicU32, Ordering};
 use std::test::Fail;
+use std::thread;
 use std::thread::Threads;
 
 // A transaction's snapshot, the keys that it read, the key that it writes, and the byte that it puts there; none deletes it.
@@ -382,28 +383,49 @@ fn each_group_enters_once(rt: HostRuntime) -> Result<(), Fail> {
     Ok(())
 }
 
-// Keeps the first group until the second one has entered. It gives up after a number of turns.
+// Keeps the first group until another one has entered. It gives up after a number of turns. It may say that it keeps none, and
+// then threads are started only where they are worth it.
 #[derive(Drop)]
 struct Meeting {
-    second: AtomicU32,
+    keeps: bool,
+    other: u32,
+    entered: AtomicU32,
     gave_up: AtomicU32,
+}
+
+impl Meeting {
+    fn new(keeps: bool, other: u32) -> Meeting {
+        Meeting {
+            keeps,
+            other,
+            entered: AtomicU32::new(0),
+            gave_up: AtomicU32::new(0),
+        }
+    }
 }
 
 impl Gate for Meeting {
     fn enter(&self, group: u32) {
-        if group == 2 {
-            self.second.store(1, Ordering::SeqCst);
+        if group == self.other {
+            self.entered.store(1, Ordering::SeqCst);
+        }
+        if group != 1 {
             return;
         }
-        for _turn in 0..100000000 {
-            if self.second.load(Ordering::SeqCst) == 1 {
+        for _turn in 0..10000000 {
+            if self.entered.load(Ordering::SeqCst) == 1 {
                 return;
             }
+            thread::yield_now();
         }
         self.gave_up.fetch_add(1, Ordering::SeqCst);
     }
 
     fn client(&self, _client: u32) {}
+
+    fn keeps(&self) -> bool {
+        self.keeps
+    }
 }
 
 // Whether the second of two sums in one window clashes, rolled by two threads under a gate.
@@ -421,11 +443,34 @@ fn second_clashes<R: Threads + Sync, G: Gate + Sync>(
 
 #[test]
 fn groups_of_a_window_are_staged_beside_each_other(rt: HostRuntime) -> Result<(), Fail> {
-    let gate = Meeting {
-        second: AtomicU32::new(0),
-        gave_up: AtomicU32::new(0),
-    };
+    let gate = Meeting::new(true, 2);
     assert!(rt; second_clashes(&rt, rt.alloc(), &gate)?);
+    assert_eq!(rt; gate.gave_up.load(Ordering::SeqCst), 0);
+    Ok(())
+}
+
+// A window of 64 groups of eight, rolled by two threads under a gate. Each entry reads a span and writes a key, so that it
+// touches just as many as are worth threads.
+fn roll_widely<R: Threads + Sync, G: Gate + Sync>(
+    rt: &R,
+    alloc: Global,
+    gate: &G,
+) -> Result<(), Fail> {
+    let shape = shape(8, 64, 512)?;
+    let sum = entry(alloc, SUM)?;
+    let sums = sum.share_times(alloc, 512);
+    drop(sum);
+    let sums = sums?;
+    let roller = rolled(rt, alloc, shape, &sums, 2, gate);
+    drop(sums);
+    drop(roller?);
+    Ok(())
+}
+
+#[test]
+fn a_wide_window_is_staged_by_two_threads(rt: HostRuntime) -> Result<(), Fail> {
+    let gate = Meeting::new(false, 33);
+    roll_widely(&rt, rt.alloc(), &gate)?;
     assert_eq!(rt; gate.gave_up.load(Ordering::SeqCst), 0);
     Ok(())
 }

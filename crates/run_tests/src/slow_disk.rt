@@ -1,66 +1,35 @@
-//! A device in memory whose sync may wait for another thread, and which tells nothing.
+//! A device in memory that may keep a call while other threads go on, and which tells nothing.
 ghost use Rattle.std.specs.Prelude.{◌≡◌, ◌≤◌, ◌<◌, ◌+◌, length, ℕ};
 
+use crate::signals::Signals;
 use hy_base::Failed;
 use hy_disk::Disk;
 use hy_mem::MemDisk;
 use std::alloc::{AllocError, Global};
 use std::sync::Arc;
-use std::sync::atomic::{AtomicU64, Ordering};
 
-/// How often a thread looks before it gives up.
-const LOOKS: u64 = 100_000_000;
-
-/// No sync waits.
-pub const QUIET: u64 = 0;
-
-/// The next sync waits.
-pub const ARMED: u64 = 1;
-
-/// A sync is under way.
-pub const SYNCING: u64 = 2;
-
-/// A program began meanwhile.
-pub const BEGUN: u64 = 3;
-
-/// A thread gave up.
-const GIVEN_UP: u64 = 4;
-
-/// How far the two threads are.
-pub type Stage = Arc<AtomicU64, Global>;
-
-/// Looks until the stage is there. Whether it is.
-pub fn reaches(stage: &Stage, wanted: u64) -> bool {
-    for _look in 0..LOOKS {
-        if stage.load(Ordering::SeqCst) == wanted {
-            return true;
-        }
-    }
-    false
-}
-
-/// A device in memory whose sync waits, once it is armed, until a program has begun. It tells nothing.
+/// A device in memory that keeps a sync, or a count of its faults, where signals say so. It tells nothing.
 #[derive(Drop)]
 pub struct SlowDisk {
     disk: MemDisk,
-    stage: Stage,
+    signals: Arc<Signals, Global>,
 }
 
 impl SlowDisk {
-    /// The device with a stage, which another thread may have too.
-    pub fn new(disk: MemDisk, stage: Stage) -> SlowDisk {
-        SlowDisk { disk, stage }
+    /// The device with signals, which other threads may have too.
+    pub fn new(disk: MemDisk, signals: Arc<Signals, Global>) -> SlowDisk {
+        SlowDisk { disk, signals }
     }
 
-    /// The device, whose sync never waits. `AllocError` where memory runs out.
+    /// The device, which keeps no call. `AllocError` where memory runs out.
     pub fn quiet(alloc: Global, disk: MemDisk) -> Result<SlowDisk, AllocError> {
-        let stage = Arc::new(alloc, AtomicU64::new(QUIET))?;
-        Ok(SlowDisk { disk, stage })
+        let signals = Arc::new(alloc, Signals::new())?;
+        Ok(SlowDisk { disk, signals })
     }
 
     /// The device in memory.
     pub fn into_disk(self) -> MemDisk {
-        let SlowDisk { disk, stage: _ } = self;
+        let SlowDisk { disk, signals: _ } = self;
         disk
     }
 }
@@ -112,16 +81,12 @@ impl Disk for SlowDisk {
     }
 
     fn sync(&mut self) -> Result<(), Failed> {
-        if self.stage.load(Ordering::SeqCst) == ARMED {
-            self.stage.store(SYNCING, Ordering::SeqCst);
-            if !reaches(&self.stage, BEGUN) {
-                self.stage.store(GIVEN_UP, Ordering::SeqCst);
-            }
-        }
+        self.signals.sync();
         self.disk.sync()
     }
 
     fn faults(&self) -> u64 {
+        self.signals.ask();
         self.disk.faults()
     }
 }
