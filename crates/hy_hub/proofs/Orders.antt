@@ -18,13 +18,13 @@ use Rattle.hy_hub.specs.Order.{AreInOrder, StandsInOrder, StandsAsAdded, IsOfBat
 use Rattle.hy_hub.proofs.Told.{flight_more}
 
 -- an item of two lists, one behind the other, is one of the first or one of the second
-abbrev IsInFirst : {X : Type 0} → List X → List X → List X → X → List X → Type 0
+abbrev pub IsInFirst : {X : Type 0} → List X → List X → List X → X → List X → Type 0
 IsInFirst xs more before x after = (rest : List _) × (xs ≡ before ++ (x ∷ rest)) × (after ≡ rest ++ more)
 
-abbrev IsInSecond : {X : Type 0} → List X → List X → List X → X → List X → Type 0
+abbrev pub IsInSecond : {X : Type 0} → List X → List X → List X → X → List X → Type 0
 IsInSecond xs more before x after = (front : List _) × (before ≡ xs ++ front) × (more ≡ front ++ (x ∷ after))
 
-split : {X : Type 0} (xs more before : List X) (x : X) (after : List X) → xs ++ more ≡ before ++ (x ∷ after) → IsInFirst xs more before x after ⊎ IsInSecond xs more before x after
+pub split : {X : Type 0} (xs more before : List X) (x : X) (after : List X) → xs ++ more ≡ before ++ (x ∷ after) → IsInFirst xs more before x after ⊎ IsInSecond xs more before x after
 split [] more before x after e = inr (before, refl, e)
 split (y ∷ xs) more [] x after e =
     let same : y ≡ x = cc e in

@@ -1,14 +1,14 @@
 //! Calls that lead: they write batches outside the turn, put the device back, and lift it again.
 ghost use Rattle.hy_hub.specs.declared.occurrence.AppendRefusal.TheVariants as AppendRefusal;
-ghost use Rattle.std.specs.Prelude.{◌≡◌, ◌≢◌, ℕ, ◌<◌, ◌^◌, length, true, false, None, Ok, Err, IfSome};
+ghost use Rattle.std.specs.Prelude.{◌≡◌, ◌≢◌, ◌⊎◌, ◌↔◌, ℕ, ◌<◌, ◌^◌, length, true, false, None, Some, Ok, Err, IfSome, slice_get};
 ghost use mathlib.Core.List.{IsPrefix};
 ghost use Rattle.hy_disk.specs.Moments.{LeavesSince};
-ghost use Rattle.hy_hist.specs.Passes.{with_mine, made};
+ghost use Rattle.hy_hist.specs.Passes.{with_mine, made, Makes};
 ghost use Rattle.hy_hub.specs.Trace.{flight_of, is_out};
 ghost use Rattle.hy_hub.specs.Hub.{IsHubHistory};
 ghost use Rattle.hy_hub.specs.Calls.{OwnTurn, IsIdle, done_by, AppendDoes, is_declared_client};
 ghost use Rattle.hy_hub.specs.Flights.{IsOutWith, IsFlownOf, are_appends};
-ghost use Rattle.hy_hub.specs.Holds.{FailsAfter, KeepsMade, IsCarrier, HasLanded, LandsOwn, IsLiftAt, LedOn, LeadsOn, MayLeadOn, Flies};
+ghost use Rattle.hy_hub.specs.Holds.{FailsAfter, KeepsMade, IsCarrier, HasLanded, LandsOwn, IsLiftAt, LedOn, LeadsOn, MayLeadOn, Flies, LeadsStill, lift_of, lift_found};
 
 use crate::contents::Contents;
 use crate::flights::{Concerned, write_batch};
@@ -53,6 +53,7 @@ impl<D: Disk, B: Since> Hub<D, B> {
         ensures seen { pass.new.seen ≡ contents }
         ensures told { IsHubHistory pass.new.seen }
         ensures order { made pass.new ≡ with_mine mine pass.new.seen (made pass.old) }
+        ensures made { (k : ℕ) (x : _) → Makes pass.new k x ↔ (Makes pass.old k x ⊎ ((mine ≡ Some k) × (slice_get pass.new.seen k ≡ Some x))) }
         ensures kept { (pass.new.lock ≡ pass.old.lock) × (pass.new.parts ≡ pass.old.parts) }
         ensures carries { pass.new.carries ≡ is_out contents }
         ensures idle { pass.new.holds ≡ false }
@@ -80,6 +81,7 @@ impl<D: Disk, B: Since> Hub<D, B> {
         requires flown { IsFlownOf D.tells D.content (LeavesSince D.moment D.left_since B.moment B.left) B.least D.faults_of pass.old.seen log (Ok at) }
         requires appends { are_appends (flight_of pass.old.seen) ≡ true }
         ensures lands { LandsOwn D.tells (LeavesSince D.moment D.left_since B.moment B.left) B.least D.faults_of self.now request.now since result pass.old pass.new }
+        ensures alone { LeadsStill self.now.parts None (lift_found result) pass.old pass.new }
     {
         let mut contents = self.lock.hold(rt, pass);
         let concerned = contents.concerned(log.laid_len());
@@ -113,6 +115,7 @@ impl<D: Disk, B: Since> Hub<D, B> {
         ensures lands { HasLanded D.tells (LeavesSince D.moment D.left_since B.moment B.left) B.least D.faults_of self.now result pass.old pass.new }
         ensures makes { done_by pass.new ≡ done_by pass.old }
         ensures last { goes_on ≡ false → result ≡ None }
+        ensures alone { LeadsStill self.now.parts (Some flight.lift) (lift_of result) pass.old pass.new }
     {
         let Flight { log, lift } = flight;
         let mut contents = self.lock.hold(rt, pass);
@@ -141,6 +144,7 @@ impl<D: Disk, B: Since> Hub<D, B> {
         requires flown { IsFlownOf D.tells D.content (LeavesSince D.moment D.left_since B.moment B.left) B.least D.faults_of pass.old.seen flight.log (Err failed) }
         requires lift { IsLiftAt flight.lift pass.old.seen }
         ensures led { LedOn self.now pass.old pass.new }
+        ensures alone { LeadsStill self.now.parts (Some flight.lift) None pass.old pass.new }
     {
         let Flight { log, lift } = flight;
         let mut contents = self.lock.hold(rt, pass);
@@ -162,8 +166,9 @@ impl<D: Disk, B: Since> Hub<D, B> {
         requires pass { IsCarrier self.now pass.old }
         requires client { is_declared_client request.now.client pass.old.seen }
         requires flown { IsFlownOf D.tells D.content (LeavesSince D.moment D.left_since B.moment B.left) B.least D.faults_of pass.old.seen log (Err failed) }
-        ensures refused { OwnTurn pass.old pass.new (AppendDoes request.now.client request.now.entry (Err result)) }
+        ensures refused { OwnTurn pass.old pass.new (AppendDoes request.now (Err result)) }
         ensures cause { FailsAfter pass.old.seen pass.new.seen × KeepsMade pass.old pass.new × ((at : ℕ) → result ≢ AppendRefusal.Stopped at) }
+        ensures alone { LeadsStill self.now.parts None None pass.old pass.new }
         ensures kept { IsIdle self.now pass.new × (pass.new.parts ≡ pass.old.parts) }
     {
         let mut contents = self.lock.hold(rt, pass);
@@ -190,6 +195,7 @@ impl<D: Disk, B: Since> Hub<D, B> {
         requires appends { are_appends (flight_of pass.old.seen) ≡ true }
         requires lift { IsLiftAt flight.lift pass.old.seen }
         ensures led { LeadsOn D.tells (LeavesSince D.moment D.left_since B.moment B.left) B.least D.faults_of self.now result pass.old pass.new }
+        ensures alone { LeadsStill self.now.parts (Some flight.lift) (lift_of result) pass.old pass.new }
         ensures last { goes_on ≡ false → result ≡ None }
     {
         let mut flight = flight;
@@ -213,6 +219,7 @@ impl<D: Disk, B: Since> Hub<D, B> {
         requires told { IsHubHistory pass.old.seen }
         requires leaves { MayLeadOn D.tells (LeavesSince D.moment D.left_since B.moment B.left) B.least D.faults_of self.now lifted pass.old }
         ensures led { LedOn self.now pass.old pass.new }
+        ensures alone { LeadsStill self.now.parts (lift_of lifted) None pass.old pass.new }
     {
         let mut lifted = lifted;
         for _batch in 1..MOST_BATCHES {
@@ -246,6 +253,7 @@ impl<D: Disk, B: Since> Hub<D, B> {
         requires out { IsOutWith D.tells (LeavesSince D.moment D.left_since B.moment B.left) B.least D.faults_of pass.old.seen flight.log }
         requires appends { are_appends (flight_of pass.old.seen) ≡ true }
         ensures flies { Flies self.now request.now since result pass.old pass.new }
+        ensures alone { LeadsStill self.now.parts None None pass.old pass.new }
         ensures kept { IsIdle self.now pass.new × (pass.new.parts ≡ pass.old.parts) }
     {
         self.places.note_lift();

@@ -1,13 +1,17 @@
 use Rattle.std.proofs.Common.{◌≡◌, ◌++◌, List, Some, ap, sym, subst, refl, ◌∙◌}
-use Rattle.std.specs.Prelude.{Ok, None}
+use Rattle.std.specs.Prelude.{Ok}
 use mathlib.Core.List.{IsPrefix}
 use Rattle.hy_hist.proofs.Lists.{prefix_trans}
 use Rattle.hy_hub.specs.declared.occurrence.Occurrence.{Occurrence}
-use Rattle.hy_hub.specs.Trace.{is_out, halt_of}
+use Rattle.hy_hub.specs.Trace.{is_out}
 use Rattle.hy_hub.proofs.Flying.{flown_later, lands_home, lifts_grow, leaves_is, home_lands, lift_some, lift_stays, lift_within}
 use Rattle.hy_hub.proofs.Holding.{same_done}
 use Rattle.hy_hub.proofs.Marks.{done_lift}
 use Rattle.hy_disk.specs.Moments.{LeavesSince}
+use Rattle.hy_hub.specs.Flights.{are_appends}
+use Rattle.hy_hub.specs.Trace.{flight_of}
+use Rattle.hy_hist.proofs.Lists.{prefix_self}
+use Rattle.hy_hub.proofs.Alone.{landed_of_lift, home_alone, leaves_alone}
 use Rattle.hy_hub.proofs.hub.Hub.land_others.Goals as goal
 
 pub land_written-requires-clause-flown : goal.land_written-requires-clause-flown
@@ -65,6 +69,12 @@ returns-then-not-goes_on g c =
       };
       makes = done_lift c.hold-contents.new.pass c.come_home.new.pass longer c.args.flight.lift at.0 at.1 p.order ∙ same_done c.args.pass.now c.hold-contents.new.pass h.made;
       last = λ e. refl;
+      alone = λ is from lifted led.
+          let own = rw h.list at lands in
+          let alone : c.args.pass.now.parts ≡ c.args.self.now.parts → c.hold-contents.new.pass.seen ≡ c.args.pass.now.seen = rw (← c.self.view_is) h.whole in
+          let whole = alone is in
+          let are = ap (λ l. are_appends (flight_of l)) whole ∙ c.requires.appends in
+          home_alone from (Some c.args.flight.lift) (Some c.args.flight.lift) c.args.pass.now c.hold-contents.new.pass c.come_home.new.pass own.0 c.come_home.new.pass.seen whole h.made p.made (prefix_self c.come_home.new.pass.seen) (p.seen ∙ own.1) (λ k e. e) (landed_of_lift c.args.at c.hold-contents.new.pass.seen own.0 are own.2) lifted led;
     }
 
 pub returns-clause-lands : goal.returns-clause-lands
@@ -96,3 +106,19 @@ returns-clause-makes g c =
     let longer : IsPrefix c.hold-contents.new.pass.seen c.come_home-2.new.pass.seen = subst (λ (l : List Occurrence). IsPrefix c.hold-contents.new.pass.seen l) (sym p.seen) (prefix_trans c.hold-contents.new.pass.seen home c.lift_again-lifted.new.self more lifts) in
     let at = lift_stays c.args.flight.lift c.args.pass.now.seen c.come_home-2.new.pass.seen (prefix_trans c.args.pass.now.seen c.hold-contents.new.pass.seen c.come_home-2.new.pass.seen h.grown longer) c.requires.lift in
     done_lift c.hold-contents.new.pass c.come_home-2.new.pass longer c.args.flight.lift at.0 at.1 p.order ∙ same_done c.args.pass.now c.hold-contents.new.pass h.made
+
+pub returns-clause-alone : goal.returns-clause-alone
+returns-clause-alone g c = λ is from lifted led.
+    let h = c.hold-contents.ensures in
+    let p = c.come_home-2.ensures in
+    let lands = c.land_written.ensures.lands in
+    let home = c.land_written.new.self in
+    let own = rw h.list at lands in
+    let alone : c.args.pass.now.parts ≡ c.args.self.now.parts → c.hold-contents.new.pass.seen ≡ c.args.pass.now.seen = rw (← c.self.view_is) h.whole in
+    let whole = alone is in
+    let are = ap (λ l. are_appends (flight_of l)) whole ∙ c.requires.appends in
+    let landed = ap is_out lands.1 ∙ lands_home (Ok c.args.at) c.hold-contents.result lands.0 lands.2 in
+    let lifts = lifts_grow g.D.Disk.tells (LeavesSince g.D.Disk.moment g.D.Disk.left_since g.B.Since.moment g.B.Since.left) g.B.Since.least g.D.Disk.faults_of home c.lift_again-lifted.new.self c.lift_again-lifted.result c.lift_again-lifted.ensures.lifts in
+    let longer = subst (λ (l : List Occurrence). IsPrefix home l) (sym p.seen) lifts in
+    let r = home_alone from (Some c.args.flight.lift) (Some c.args.flight.lift) c.args.pass.now c.hold-contents.new.pass c.come_home-2.new.pass own.0 home whole h.made p.made longer own.1 (λ k e. e) (landed_of_lift c.args.at c.hold-contents.new.pass.seen own.0 are own.2) lifted led in
+    (r.0, leaves_alone g.D.Disk.tells (LeavesSince g.D.Disk.moment g.D.Disk.left_since g.B.Since.moment g.B.Since.left) g.B.Since.least g.D.Disk.faults_of c.args.self.now c.lift_again-lifted.result home c.come_home-2.new.pass from (leaves_is g.D.Disk.tells (LeavesSince g.D.Disk.moment g.D.Disk.left_since g.B.Since.moment g.B.Since.left) g.B.Since.least g.D.Disk.faults_of c.args.self.now c.lift_again-lifted.result c.come_home-2.new.pass home c.lift_again-lifted.new.self (p.kept.0 ∙ (h.kept.0 ∙ c.requires.pass.0)) p.idle landed p.seen p.carries c.lift_again-lifted.ensures.lifts) r.1)
