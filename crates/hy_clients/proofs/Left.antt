@@ -1,6 +1,6 @@
 -- What is left of a run when its hub is closed.
 use Rattle.std.proofs.Common.{◌≡◌, ◌≢◌, ℕ, ◌+◌, ◌≤◌, Bool, true, false, IsTrue, List, [], ◌∷◌, ◌++◌, length, get_or, take, map, Some, None, inl, inr, refl, ap, sym, ◌∙◌, subst, arith, length-append}
-use Rattle.std.specs.Prelude.{All, Option, ◌==◌}
+use Rattle.std.specs.Prelude.{All, Option, ◌==◌, replicate, option_map, option_to_list}
 use Rattle.std.specs.List.{AllByRecursion, list_all, list_any}
 use Rattle.std.proofs.lemmas.List.{take_all}
 use Rattle.std.proofs.lemmas.List.Elements.{All-nil, All-cons}
@@ -16,12 +16,14 @@ use Rattle.hy_disk.specs.Content.{Content}
 use Rattle.hy_log.specs.View.{LogView, HoldsUpTo}
 use Rattle.hy_formats.specs.EntryFormat.{spelling}
 use Rattle.hy_base.specs.declared.workload.Event.{Event}
-use Rattle.hy_rules.specs.Moves.{Setting, State, MayAdd, opening, is_stop}
+use Rattle.hy_base.specs.declared.workload.ArmedStop.{ArmedStop}
+use Rattle.hy_rules.specs.Moves.{Setting, State, MayAdd, after, opening, is_stop, surviving}
+use Rattle.hy_hub.proofs.Turns.{unarmed}
 use Rattle.hy_rolling.specs.Rolling.{Roll, rolled_upto, Stands}
-use Rattle.hy_rules.specs.Runs.{setting_of as script_setting, opening_of}
+use Rattle.hy_rules.specs.Runs.{setting_of as script_setting, opening_of, own_entry, pending}
 use Rattle.hy_hub.specs.Origin.{Origin}
 use Rattle.hy_hub.specs.declared.occurrence.Occurrence.{Occurrence}
-use Rattle.hy_hub.specs.declared.occurrence.Occurrence.TheVariants.{Opened, Lifted}
+use Rattle.hy_hub.specs.declared.occurrence.Occurrence.TheVariants.{Opened, Happened, Halted, Lifted, Landed}
 use Rattle.hy_hub.specs.Past.{HasStood}
 use Rattle.hy_hub.specs.Calls.{events_in_list}
 use Rattle.hy_hub.specs.Entries.{Asked}
@@ -31,7 +33,8 @@ use Rattle.hy_hub.specs.Order.{MayBeNext}
 use Rattle.hy_hub.proofs.Orders.{failed_before}
 use Rattle.hy_hub.proofs.Events.{events_join}
 use Rattle.hy_hub.proofs.Later.{first_moves}
-use Rattle.hy_base.specs.declared.workload.Event.TheVariants.{Append}
+use Rattle.hy_base.specs.declared.workload.Event.TheVariants.{Append, Pad}
+use Rattle.hy_base.specs.declared.record.EntryKind.TheVariants.{Filler}
 use Rattle.hy_hub.specs.Trace.{setting, setting_in, state_after, faults_at_opening, failed_lift, failed_entries, entries_of_lift, batch_entries, events_told, asked_entry, asked_event, after_all, AreMoves}
 use Rattle.hy_hub.specs.Hub.{IsBoard, IsHubHistory, IsTornLog}
 use Rattle.hy_hub.specs.Close.{IsClosed}
@@ -40,12 +43,15 @@ use Rattle.hy_hist.proofs.Lists.{prefix_self}
 use Rattle.hy_base.specs.declared.workload.Home.{Home}
 use Rattle.hy_hub.proofs.Told.{told_setting}
 use Rattle.hy_hub.proofs.Passing.{log_more}
-use Rattle.hy_clients.specs.Passing.{OpensStanding, opened_log}
-use Rattle.hy_clients.specs.Finished.{IsCutShort, IsTornBehind, AreAsked, MayAllAdd}
+use Rattle.hy_clients.specs.Passing.{Fits, OpensStanding, opened_log, opened_start}
+use Rattle.hy_hub.specs.Suits.{AllSuit, SuitsNext}
+use Rattle.hy_hub.proofs.Later.{not_empty}
+use Rattle.hy_clients.proofs.Following.{run_is}
+use Rattle.hy_clients.specs.Finished.{IsCutShort, IsTornBehind, IsAskedBy, AreAsked, MayAllAdd}
 use Rattle.hy_rules.specs.Moves.{LeadTo}
 use Rattle.hy_clients.proofs.RunLaw.{moves_are, state_is}
 use Rattle.hy_clients.proofs.Running.{moves as moves_on, no_stops}
-use Rattle.hy_clients.proofs.Openings.{opened_same}
+use Rattle.hy_clients.proofs.Openings.{opened_same, stood_before}
 
 -- ---- logs
 
@@ -67,17 +73,38 @@ found_first list is =
 -- ---- the batch that failed
 
 -- none is asked at the opening
-pub none_asked : (script : Workload) (found : List EntryKind) (events : List Event) → AreAsked script found events []
-none_asked script found events = record { front = []; begins = (events, refl); state = opening_of script found; moves = refl; may = inl tt }
+pub none_asked : (script : Workload) (found : List EntryKind) (start : Roll) (events : List Event) → AreAsked script found start events []
+none_asked script found start events = record { front = []; begins = (events, refl); state = opening_of script found; moves = refl; may = inl tt }
 
--- the events of a batch that may be next are those of entries that may be added
-each_asked : (before : List Occurrence) (waiting : List Asked) → AllByRecursion (MayBeNext before) (map asked_event waiting) → AllByRecursion (λ entry. (client : ℕ) × MayAdd (setting_in before) (state_after before) (Append client) (entry ∷ [])) (map asked_entry waiting)
-each_asked before [] all = tt
-each_asked before (a ∷ waiting) all = ((a.client, all.0), each_asked before waiting all.1)
+one_left : {X : Type 0} (o : Option X) → take 1 (option_to_list o) ≡ option_to_list o
+one_left None = refl
+one_left (Some x) = refl
 
-may_all : (before : List Occurrence) (batch : Batch) → AllByRecursion (MayBeNext before) (events_told batch) → MayAllAdd (setting_in before) (state_after before) (batch_entries batch)
-may_all before (Appends waiting count ahead lifted) all = inl (each_asked before (take count waiting.value.items) all)
-may_all before (Fillers server count lifted) all = inr (server, all.0)
+-- a list without stops leaves none armed
+calm_led : (w : Setting) (s : State) (occurrences : List Occurrence) → AreMoves w s occurrences → s.armed ≡ None → (after_all w s occurrences).armed ≡ None
+calm_led w s [] all calm = calm
+calm_led w s (Opened o ∷ occurrences) all calm = absurd all
+calm_led w s (Halted at risen ∷ occurrences) all calm = calm_led w s occurrences all calm
+calm_led w s (Lifted batch ∷ occurrences) all calm = calm_led w s occurrences all calm
+calm_led w s (Landed ∷ occurrences) all calm = calm_led w s occurrences all calm
+calm_led w s (Happened event added ∷ occurrences) all calm = calm_led w (after w s event added.entries) occurrences all.2 (unarmed w s event added.entries calm all.1)
+
+-- The events of a batch that may be next are those of entries that may be added. Where they suit, these are what the clients' programs leave.
+module _ (suits : State → Event → List EntryKind → Type 0) (script : Workload) (stood : Type 0) (only : (s : State) (event : Event) (added : List EntryKind) → suits s event added → stood → Fits script s event added) (before : List Occurrence) (same : setting_in before ≡ script_setting script) (calm : (state_after before).armed ≡ None) where
+  each_asked : (waiting : List Asked) → AllByRecursion (MayBeNext before) (map asked_event waiting) → AllByRecursion (SuitsNext suits before) (map asked_event waiting) → AllByRecursion (IsAskedBy script stood (state_after before)) (map asked_entry waiting)
+  each_asked [] all fit = tt
+  each_asked (a ∷ waiting) all fit = (
+    record {
+      client = a.client;
+      may = subst (λ (w : Setting). MayAdd w (state_after before) (Append a.client) (a.entry ∷ [])) same all.0;
+      leaves = λ stands. sym ((only (state_after before) (Append a.client) (a.entry ∷ []) fit.0 stands).1 calm ∙ (ap (λ (o : Option ArmedStop). take (surviving o 1) (own_entry script (state_after before) a.client)) calm ∙ one_left (option_map _ (pending script (state_after before) a.client))));
+    },
+    each_asked waiting all.1 fit.1,
+  )
+
+  may_all : (batch : Batch) → AllByRecursion (MayBeNext before) (events_told batch) → AllByRecursion (SuitsNext suits before) (events_told batch) → MayAllAdd script stood (state_after before) (batch_entries batch)
+  may_all (Appends waiting count ahead lifted) all fit = inl (each_asked (take count waiting.value.items) all fit)
+  may_all (Fillers server count lifted) all fit = inr (server, subst (λ (w : Setting). MayAdd w (state_after before) (Pad server) (replicate count (Filler server))) same all.0)
 
 -- a beginning of a list that isn't empty begins with its opening
 first_opened : (o : Origin) (past before more : List Occurrence) → Opened o ∷ past ≡ before ++ more → (before ≡ [] → ⊥) → (first : List Occurrence) × (before ≡ Opened o ∷ first) × (past ≡ first ++ more)
@@ -125,28 +152,31 @@ module _ {D : Type 0} {tells : Bool} {content : D → Content} {leaves : D → (
     quiet : list_any is_stop (events_in_list list) ≡ false
     quiet = ap (list_any is_stop) (ap events_in_list closed.told.told.begins) ∙ no_stops (script_setting script) (opening (script_setting script) closed.told.opened.found) closed.told.told.past (moves_are script list closed.told same)
 
+  -- and by what its hub takes
+  module _ (suits : State → Event → List EntryKind → Type 0) (all : AllSuit suits list) (script : Workload) (same : setting_in list ≡ script_setting script) (found_is : least ≡ length (opened_log list)) (only : (s : State) (event : Event) (added : List EntryKind) → suits s event added → OpensStanding list → Fits script s event added) where
     -- the log, by what is left where it is stopped
-    cut_of : (IsTrue tells → log.stopped ≢ None → IsTornBehind content leaves script (opened_log list) (events_in_list list) (state_after list).log log) → IsCutShort tells content leaves script (opened_log list) log
+    cut_of : (IsTrue tells → log.stopped ≢ None → IsTornBehind content leaves script (opened_log list) (opened_start list) (events_in_list list) (state_after list).log log) → IsCutShort tells content leaves script (opened_log list) (opened_start list) log
     cut_of torn = record {
       entries = (state_after list).log;
       begins = found_first list closed.told;
-      lawful = subst (λ (s : Shape). IsLawful s (state_after list).log) opened_shape closed.told.lawful;
+      lawful = subst (λ (s : Shape). IsLawful s (state_after list).log) (opened_shape script same found_is) closed.told.lawful;
       sound = closed.told.sound;
       events = events_in_list list;
       end = state_after list;
-      moves = led;
-      calm = quiet;
+      moves = led script same found_is;
+      calm = quiet script same found_is;
+      runs = λ stood. run_is suits script list closed.told same only all stood;
       leads_to = refl;
-      log_shape = here;
+      log_shape = here script same found_is;
       count = closed.stored.count ∙ ap length closed.entries_are;
       bodies = λ t. closed.stored.bodies t ∙ ap (map spelling) closed.entries_are;
-      past = since_made;
+      past = since_made script same found_is;
       torn = torn;
     }
 
     -- the batch of the lift that failed was asked
-    asked_of : (lift : Option (ℕ × Batch)) → failed_lift list ≡ lift → AreAsked script (opened_log list) (events_in_list list) (entries_of_lift lift)
-    asked_of None e = none_asked script (opened_log list) (events_in_list list)
+    asked_of : (lift : Option (ℕ × Batch)) → failed_lift list ≡ lift → AreAsked script (opened_log list) (opened_start list) (events_in_list list) (entries_of_lift lift)
+    asked_of None e = none_asked script (opened_log list) (opened_start list) (events_in_list list)
     asked_of (Some lift) e =
         let w = script_setting script in
         let o = closed.told.opened in
@@ -157,6 +187,7 @@ module _ {D : Type 0} {tells : Bool} {content : D → Content} {leaves : D → (
         let more = Lifted lift.1 ∷ there.1 in
         let cut = first_opened o past before more (sym closed.told.told.begins ∙ there.2) (λ none. absurd (cc (sym closed.told.told.begins ∙ (there.2 ∙ ap (λ l. l ++ more) none)))) in
         let next = (closed.told.order before (Lifted lift.1) there.1 there.2).2 in
+        let fit = all before (Lifted lift.1) there.1 there.2 in
         let set : setting o ≡ w = sym (told_setting o list _ _ closed.told.told) ∙ same in
         let moves = first_moves w start cut.0 more (subst (AreMoves w start) cut.2 (moves_are script list closed.told same)) in
         let state : state_after before ≡ after_all w start cut.0 = ap state_after cut.1 ∙ (λ i. after_all (set i) (opening (set i) o.found) cut.0) in
@@ -168,24 +199,24 @@ module _ {D : Type 0} {tells : Bool} {content : D → Content} {leaves : D → (
           state = state_after before;
           moves = subst (λ (f : List EntryKind). LeadTo w (opening w f) (events_in_list before) (state_after before)) (sym found)
               (subst (λ (z : State). LeadTo w start (events_in_list before) z) (sym state) (subst (λ (es : List Event). LeadTo w start es (after_all w start cut.0)) (sym events) (moves_on w start cut.0 moves)));
-          may = subst (λ (v : Setting). MayAllAdd v (state_after before) (batch_entries lift.1)) set_is (may_all before lift.1 next);
+          may = may_all suits script (OpensStanding list) only before set_is (ap (λ (z : State). z.armed) state ∙ calm_led w start cut.0 moves refl) lift.1 next fit;
         }
 
-    behind : IsTornLog content leaves least (failed_entries list) log entries → IsTornBehind content leaves script (opened_log list) (events_in_list list) (state_after list).log log
+    behind : IsTornLog content leaves least (failed_entries list) log entries → IsTornBehind content leaves script (opened_log list) (opened_start list) (events_in_list list) (state_after list).log log
     behind torn =
         let mine = closed.entries_are in
         record {
           batch = failed_entries list;
           asked = asked_of (failed_lift list) refl;
           few = torn.few;
-          lawful = subst (λ (l : List EntryKind). IsLawful script.shape (l ++ failed_entries list)) mine (subst (λ (s : Shape). IsLawful s (entries ++ failed_entries list)) here torn.lawful);
+          lawful = subst (λ (l : List EntryKind). IsLawful script.shape (l ++ failed_entries list)) mine (subst (λ (s : Shape). IsLawful s (entries ++ failed_entries list)) (here script same found_is) torn.lawful);
           sound = torn.sound;
-          left = λ image is. subst (λ (s : Shape). HoldsUpTo s log.bodies (map spelling (failed_entries list)) image) here (torn.left image is);
+          left = λ image is. subst (λ (s : Shape). HoldsUpTo s log.bodies (map spelling (failed_entries list)) image) (here script same found_is) (torn.left image is);
           past = subst (λ (n : ℕ). leaves log.disk (HasStood script.shape n (state_after list).log (failed_entries list))) found_is
-              (subst (λ (es : List EntryKind). leaves log.disk (HasStood script.shape least es (failed_entries list))) mine (subst (λ (z : Shape). leaves log.disk (HasStood z least entries (failed_entries list))) here torn.past));
+              (subst (λ (es : List EntryKind). leaves log.disk (HasStood script.shape least es (failed_entries list))) mine (subst (λ (z : Shape). leaves log.disk (HasStood z least entries (failed_entries list))) (here script same found_is) torn.past));
         }
 
-    pub cut_short : IsCutShort tells content leaves script (opened_log list) log
+    pub cut_short : IsCutShort tells content leaves script (opened_log list) (opened_start list) log
     cut_short = cut_of (λ t stopped. behind (closed.stored.torn t stopped))
 
   pub no_fewer : faults_at_opening list ≤ faults
@@ -195,15 +226,16 @@ module _ {D : Type 0} {tells : Bool} {content : D → Content} {leaves : D → (
   rose stopped = subst (λ (n : ℕ). Rose n faults) (sym (ap faults_at_opening closed.told.told.begins)) (closed.stored.cause stopped)
 
 -- the log of a hub that was closed, by what its first pass had seen
-pub run_cut : {D : Type 0} {tells : Bool} {content : D → Content} {leaves : D → (List ℕ → Type 0) → Type 0} {least : ℕ} {faults : ℕ} {list : List Occurrence} {log : LogView D} {entries : List EntryKind} {rollers : List Roll} (closed : IsClosed tells content leaves least faults list log entries rollers) (script : Workload) (first : List Occurrence)
-    → IsHubHistory first → IsPrefix first list → setting_in first ≡ script_setting script → least ≡ length (opened_log first) → IsCutShort tells content leaves script (opened_log first) log
-run_cut {D} {tells} {content} {leaves} {least} {faults} {list} {log} {entries} {rollers} closed script first is p same found =
+pub run_cut : {D : Type 0} {tells : Bool} {content : D → Content} {leaves : D → (List ℕ → Type 0) → Type 0} {least : ℕ} {faults : ℕ} {list : List Occurrence} {log : LogView D} {entries : List EntryKind} {rollers : List Roll} (closed : IsClosed tells content leaves least faults list log entries rollers) (suits : State → Event → List EntryKind → Type 0) (script : Workload) (first : List Occurrence)
+    → AllSuit suits list → ((s : State) (event : Event) (added : List EntryKind) → suits s event added → OpensStanding first → Fits script s event added) → IsHubHistory first → IsPrefix first list → setting_in first ≡ script_setting script → least ≡ length (opened_log first) → IsCutShort tells content leaves script (opened_log first) (opened_start first) log
+run_cut {D} {tells} {content} {leaves} {least} {faults} {list} {log} {entries} {rollers} closed suits script first all only is p same found =
     let o = opened_same first list is p in
-    subst (λ (l : List EntryKind). IsCutShort tells content leaves script l log) o.log (cut_short closed script (o.setting ∙ same) (found ∙ sym (ap length o.log)))
+    let here = cut_short closed suits all script (o.setting ∙ same) (found ∙ sym (ap length o.log)) (λ s event added takes stood. only s event added takes (stood_before first list (not_empty first is) p stood)) in
+    subst (λ (r : Roll). IsCutShort tells content leaves script (opened_log first) r log) o.start (subst (λ (l : List EntryKind). IsCutShort tells content leaves script l (opened_start list) log) o.log here)
 
 -- the log before a hub was made of it, or where none was
 pub initial_cut : {D : Type 0} (tells : Bool) (content : D → Content) (leaves : D → (List ℕ → Type 0) → Type 0) (log back : LogView D) (entries : List EntryKind) (start : Roll) (servers : ℕ) (homes : List Home) (script : Workload)
-    → IsInitial tells log entries start servers homes → start.shape ≡ script.shape → back.shape ≡ log.shape → back.stopped ≡ None → length back.bodies ≡ length log.bodies → (IsTrue tells → back.bodies ≡ log.bodies) → (IsTrue tells → leaves back.disk (HasStood script.shape (length entries) entries [])) → IsCutShort tells content leaves script entries back
+    → IsInitial tells log entries start servers homes → start.shape ≡ script.shape → back.shape ≡ log.shape → back.stopped ≡ None → length back.bodies ≡ length log.bodies → (IsTrue tells → back.bodies ≡ log.bodies) → (IsTrue tells → leaves back.disk (HasStood script.shape (length entries) entries [])) → IsCutShort tells content leaves script entries start back
 initial_cut tells content leaves log back entries start servers homes script initial same here running count bodies past = record {
   entries = entries;
   begins = prefix_self entries;
@@ -213,6 +245,7 @@ initial_cut tells content leaves log back entries start servers homes script ini
   end = opening_of script entries;
   moves = refl;
   calm = refl;
+  runs = λ stood. refl;
   leads_to = refl;
   log_shape = here ∙ (initial.shape ∙ same);
   count = count ∙ initial.count;

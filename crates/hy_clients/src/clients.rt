@@ -1,5 +1,5 @@
 //! All clients of a script on a log.
-ghost use Rattle.std.specs.Prelude.{◌≡◌, ◌≢◌, ◌≤◌, ◌==◌, length, map, true, None, IsTrue, IfOk, IfErr};
+ghost use Rattle.std.specs.Prelude.{◌≡◌, ◌≢◌, ◌≤◌, ◌==◌, List, length, map, true, None, IsTrue, IfOk, IfErr};
 ghost use Rattle.std.specs.List.{list_all};
 ghost use mathlib.Core.List.{IsPrefix};
 ghost use Rattle.hy_base.specs.Faults.{Rose};
@@ -11,7 +11,10 @@ ghost use Rattle.hy_formats.specs.LogDevice.{Holds};
 ghost use Rattle.hy_hub.specs.Initial.{IsInitial};
 ghost use Rattle.hy_disk.specs.Moments.{LeavesSince};
 ghost use Rattle.hy_hub.specs.Trace.{setting_in, state_after, faults_at_opening};
-ghost use Rattle.hy_clients.specs.Passing.{IsRunPass, OpensInLog, opened_log, opened_start};
+ghost use Rattle.hy_base.specs.declared.record.EntryKind.{EntryKind};
+ghost use Rattle.hy_base.specs.declared.workload.Event.{Event};
+ghost use Rattle.hy_rules.specs.Moves.{State};
+ghost use Rattle.hy_clients.specs.Passing.{IsRunPass, Fits, StartStands, OpensStanding, OpensInLog, opened_log, opened_start};
 ghost use Rattle.hy_clients.specs.Served.{AllServed};
 ghost use Rattle.hy_clients.specs.Finished.{IsCutShort, IsFinished};
 
@@ -127,10 +130,10 @@ fn serve_to_end<D: Disk + Send, B: Since + Send, R: Threads + Wait + Sync, G: Ga
     threads: usize,
     gate: &G,
 ) -> Result<Vec<Vec<Answered>>, Cut>
-    requires pass { IsRunPass hub.now script.now pass.old }
+    requires pass { IsRunPass B.suits hub.now script.now pass.old }
     requires parts { (hub.now.parts ≡ 129) × (pass.old.parts ≡ 129) }
     requires threads { IsThreadCount threads }
-    ensures pass { IsRunPass hub.now script.now pass.new }
+    ensures pass { IsRunPass B.suits hub.now script.now pass.new }
     ensures parts { pass.new.parts ≡ 129 }
     ensures grown { IsPrefix pass.old.seen pass.new.seen }
     ensures served { IfOk result (λ told. AllServed script.now pass.new.seen 1 script.now.clients (map (λ t. t.items) told.items)) }
@@ -158,13 +161,14 @@ fn run_on<D: Disk + Send, B: Since + Send, R: Threads + Wait + Sync, G: Gate + S
     threads: usize,
     gate: &G,
 ) -> Result<Run<D>, Broken<D>>
-    requires pass { IsRunPass hub script.now pass }
+    requires pass { IsRunPass B.suits hub script.now pass }
     requires parts { (hub.parts ≡ 129) × (pass.parts ≡ 129) }
     requires within { OpensInLog pass.seen }
     requires least { B.least ≡ length (opened_log pass.seen) }
+    requires suits { (s : State) (event : Event) (added : List EntryKind) → B.suits s event added → OpensStanding pass.seen → Fits script.now s event added }
     requires threads { IsThreadCount threads }
     ensures run { IfOk result (λ run. IsFinished D.tells (LeavesSince D.moment D.left_since B.moment B.left) script.now (opened_log pass.seen) (opened_start pass.seen) run.events run.replies run.boards run.log) }
-    ensures cut { IfErr result (λ broken. IsCutShort D.tells D.content (LeavesSince D.moment D.left_since B.moment B.left) script.now (opened_log pass.seen) broken.log) }
+    ensures cut { IfErr result (λ broken. IsCutShort D.tells D.content (LeavesSince D.moment D.left_since B.moment B.left) script.now (opened_log pass.seen) (opened_start pass.seen) broken.log) }
     ensures cause { IfErr result (λ broken. broken.cause ≡ Cause.Device → Rose (faults_at_opening pass.seen) (D.faults_of broken.log.disk)) }
     ensures memory { IfErr result (λ broken. broken.cause ≡ Cause.Memory → broken.log.stopped ≡ None) }
     ensures stopped { IfErr result (λ broken. broken.log.stopped ≢ None → Rose (faults_at_opening pass.seen) (D.faults_of broken.log.disk)) }
@@ -195,9 +199,11 @@ fn run_since<D: Disk + Send, B: Since + Send, R: Threads + Wait + Sync, G: Gate 
     requires shape { start.shape ≡ script.now.shape }
     requires since { IsTrue D.tells → LeavesSince D.moment D.left_since B.moment B.left log.disk (Holds log.shape log.bodies) }
     requires least { B.least ≡ length log.bodies }
+    requires takes { (s : State) (event : Event) (added : List EntryKind) → (StartStands entries.items start → Fits script.now s event added) → B.suits s event added }
+    requires suits { (s : State) (event : Event) (added : List EntryKind) → B.suits s event added → StartStands entries.items start → Fits script.now s event added }
     requires threads { IsThreadCount threads }
     ensures run { IfOk result (λ run. IsFinished D.tells (LeavesSince D.moment D.left_since B.moment B.left) script.now entries.items start run.events run.replies run.boards run.log) }
-    ensures cut { IfErr result (λ broken. IsCutShort D.tells D.content (LeavesSince D.moment D.left_since B.moment B.left) script.now entries.items broken.log) }
+    ensures cut { IfErr result (λ broken. IsCutShort D.tells D.content (LeavesSince D.moment D.left_since B.moment B.left) script.now entries.items start broken.log) }
     ensures cause { IfErr result (λ broken. broken.cause ≡ Cause.Device → Rose (D.faults_of log.disk) (D.faults_of broken.log.disk)) }
     ensures memory { IfErr result (λ broken. broken.cause ≡ Cause.Memory → broken.log.stopped ≡ None) }
     ensures stopped { IfErr result (λ broken. broken.log.stopped ≢ None → Rose (D.faults_of log.disk) (D.faults_of broken.log.disk)) }
@@ -236,7 +242,7 @@ pub fn run_clients<D: Disk + Send, R: Threads + Wait + Sync, G: Gate + Sync>(
     requires shape { start.shape ≡ script.now.shape }
     requires threads { IsThreadCount threads }
     ensures run { IfOk result (λ run. IsFinished D.tells (LeavesSince D.moment D.left_since (D.moment log.disk) (D.left_since log.disk)) script.now entries.items start run.events run.replies run.boards run.log) }
-    ensures cut { IfErr result (λ broken. IsCutShort D.tells D.content (LeavesSince D.moment D.left_since (D.moment log.disk) (D.left_since log.disk)) script.now entries.items broken.log) }
+    ensures cut { IfErr result (λ broken. IsCutShort D.tells D.content (LeavesSince D.moment D.left_since (D.moment log.disk) (D.left_since log.disk)) script.now entries.items start broken.log) }
     ensures cause { IfErr result (λ broken. broken.cause ≡ Cause.Device → Rose (D.faults_of log.disk) (D.faults_of broken.log.disk)) }
     ensures memory { IfErr result (λ broken. broken.cause ≡ Cause.Memory → broken.log.stopped ≡ None) }
     ensures stopped { IfErr result (λ broken. broken.log.stopped ≢ None → Rose (D.faults_of log.disk) (D.faults_of broken.log.disk)) }

@@ -119,6 +119,7 @@ module _ {D : Type 0} (tells : Bool) (content : D → Content) (moment : D → �
     begins = p.begins;
     moves = p.moves;
     calm = p.calm;
+    runs = p.runs;
     lawful = p.lawful;
     few = p.few;
     asked = p.asked;

@@ -67,7 +67,7 @@ pub record IsObeyed (m : JobMeaning) (before after : Ends) (log points : Over) (
   -- What is left.
   pub source : LeavesSourceBy m.reads answer before.left after.left before.source_faults after.source_faults
   pub may_leave : m.may_leave before.left log fate
-  pub log_left : LeavesLog log fate
+  pub log_left : LeavesLog log fate start
   pub acked_is : acked ≡ acked_by fate
   pub point_left : LeavesPoint m.options points fate start
   pub unused : m.options.from_point ≡ false → m.options.save ≡ false → points.uncalled

@@ -17,7 +17,7 @@ use Rattle.hy_formats.specs.declared.damage.LogPlace.TheVariants.{Page, Entry}
 use Rattle.hy_base.specs.declared.workload.Event.TheVariants.{Append, Pad}
 use Rattle.hy_rules.specs.Moves.{State, LeadTo, MayAdd, is_stop}
 use Rattle.hy_rules.specs.Recovery.{recovered}
-use Rattle.hy_rules.specs.Runs.{is_finished, opening_of, setting_of}
+use Rattle.hy_rules.specs.Runs.{is_finished, opening_of, own_entry, run, setting_of}
 use Rattle.hy_rules.specs.SavedPoints.{IsFit, IsLeftBySave, StandsIfAny}
 use Rattle.hy_run.specs.Over.{HasFailed, IsOnlyRead, LeavesEver, LeavesNow, Over}
 use Rattle.hy_run.specs.declared.status.RunOptions.{RunOptions}
@@ -57,23 +57,24 @@ acked_by unopened = 0
 acked_by (opened shape bodies) = length bodies
 acked_by (grown g) = length g.end.log
 
--- Clients asked to append the entries of the batch, each by itself, or a pad to complete the last group with them, in a state on the way.
-pub record WereAsked (g : Growth) : Type 0 where
+-- Clients asked to append the entries of the batch, each by itself, or a pad to complete the last group with them, in a state on the way. Where the point from which the run began stands for the log that was found, each is the entry of its client's begun program.
+pub record WereAsked (g : Growth) (start : Option Checkpoint) : Type 0 where
   pub front : List Event
   pub begins : IsPrefix front g.events
   pub state : State
   pub moves : LeadTo (setting_of g.script) (opening_of g.script g.found) front state
-  pub may : AllByRecursion (λ entry. (client : ℕ) × MayAdd (setting_of g.script) state (Append client) (entry ∷ [])) g.batch ⊎ ((server : ℕ) × MayAdd (setting_of g.script) state (Pad server) g.batch)
+  pub may : AllByRecursion (λ entry. (client : ℕ) × MayAdd (setting_of g.script) state (Append client) (entry ∷ []) × (StandsIfAny g.script.shape g.found start → own_entry g.script state client ≡ entry ∷ [])) g.batch ⊎ ((server : ℕ) × MayAdd (setting_of g.script) state (Pad server) g.batch)
 
--- Moves of the script's clients that are no stops lead from the log that was found to one that begins with it. That and the batch are lawful together. There is a batch only where the device failed, and it was asked on the way.
-pub record IsGrowth (log : Over) (g : Growth) : Type 0 where
+-- Moves of the script's clients that are no stops lead from the log that was found to one that begins with it. Where the point from which the run began stands for that log, they are a run of the script as far as it goes: each entry is what its client's program leaves on its snapshot. The log and the batch are lawful together. There is a batch only where the device failed, and it was asked on the way.
+pub record IsGrowth (log : Over) (g : Growth) (start : Option Checkpoint) : Type 0 where
   pub was_found : IsTrue log.tells → HasFound log.before.seen g.script.shape g.found
   pub begins : IsPrefix g.found g.end.log
   pub moves : LeadTo (setting_of g.script) (opening_of g.script g.found) g.events g.end
   pub calm : list_any is_stop g.events ≡ false
+  pub runs : StandsIfAny g.script.shape g.found start → run g.script (opening_of g.script g.found) g.events ≡ Some g.end
   pub lawful : IsLawful g.script.shape (g.end.log ++ g.batch)
   pub few : length g.batch ≤ largest_batch
-  pub asked : WereAsked g
+  pub asked : WereAsked g start
   pub no_batch : (HasFailed log → ⊥) → g.batch ≡ []
 
 -- the first so many of the entries of a growth, no fewer than were found
@@ -88,14 +89,14 @@ abbrev pub HoldsAll : Growth → List ℕ → Type 0
 HoldsAll g image = HoldsEntries g.script.shape (g.end.log ++ g.batch) image
 
 -- What a crash leaves of the log, at any moment of the call and now.
-abbrev pub LeavesLog : Over → Fate → Type 0
-LeavesLog log uncalled = log.uncalled
-LeavesLog log unopened = LeavesEver log (IsKept log.before.seen) × (IsTrue log.tells → (HasFailed log → ⊥) → log.now.seen ≡ log.before.seen)
-LeavesLog log (opened shape bodies) =
+abbrev pub LeavesLog : Over → Fate → Option Checkpoint → Type 0
+LeavesLog log uncalled start = log.uncalled
+LeavesLog log unopened start = LeavesEver log (IsKept log.before.seen) × (IsTrue log.tells → (HasFailed log → ⊥) → log.now.seen ≡ log.before.seen)
+LeavesLog log (opened shape bodies) start =
     (IsTrue log.tells → outcome (Some shape) log.before.seen ≡ Ok (record { shape = Some shape; bodies = bodies }))
     × LeavesEver log (IsKept log.before.seen) × LeavesNow log (Holds shape bodies)
-LeavesLog log (grown g) =
-    IsGrowth log g
+LeavesLog log (grown g) start =
+    IsGrowth log g start
     × LeavesEver log (λ image. IsKept log.before.seen image ⊎ (HoldsFirst g image ⊎ HoldsAll g image))
     × LeavesNow log (λ image. HoldsEntries g.script.shape g.end.log image ⊎ HoldsAll g image)
 

@@ -63,6 +63,6 @@ pub record IsInspection {V : Type 0} (items : V → Text) (report : Report) (log
   pub cause : IfErr text (IsLogFault log.tells (recovered log.before.seen) log.faults log.faults_now)
   pub comes_first : IfErr text (λ s. FitsLook s fate)
   pub may_leave : LeavesUnborn log fate
-  pub log_left : LeavesLog log fate
+  pub log_left : LeavesLog log fate None
   pub acked_is : acked ≡ acked_by fate
   pub later : log.faults ≤ log.faults_now

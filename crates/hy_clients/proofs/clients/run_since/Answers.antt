@@ -11,11 +11,11 @@ returns-in_default-clause-cut g c =
     let script = c.args.script.now in
     let log = c.args.log in
     let cut = initial_cut g.D.Disk.tells g.D.Disk.content (LeavesSince g.D.Disk.moment g.D.Disk.left_since g.B.Since.moment g.B.Since.left) log log c.args.entries.items c.args.start script.servers (setting_of script).homes script c.requires.opens c.requires.shape refl c.requires.opens.running refl (λ t. refl) (λ t. first_past c.requires.opens c.requires.shape c.requires.since t) in
-    subst (IsCutShort g.D.Disk.tells g.D.Disk.content (LeavesSince g.D.Disk.moment g.D.Disk.left_since g.B.Since.moment g.B.Since.left) script c.args.entries.items) (sym c.break_off.ensures.log) cut
+    subst (IsCutShort g.D.Disk.tells g.D.Disk.content (LeavesSince g.D.Disk.moment g.D.Disk.left_since g.B.Since.moment g.B.Since.left) script c.args.entries.items c.args.start) (sym c.break_off.ensures.log) cut
 
 pub returns-in-Err-clause-cut : goal.returns-in-Err-clause-cut
 returns-in-Err-clause-cut g c =
     let script = c.args.script.now in
     let m = c.in-Err.ensures in
     let cut = initial_cut g.D.Disk.tells g.D.Disk.content (LeavesSince g.D.Disk.moment g.D.Disk.left_since g.B.Since.moment g.B.Since.left) c.args.log c.in-Err.log c.args.entries.items c.args.start script.servers (setting_of script).homes script c.requires.opens c.requires.shape m.memory.0 m.memory.1 m.count m.bodies (λ t. back_past c.requires.opens c.requires.shape c.requires.least (m.past t)) in
-    subst (IsCutShort g.D.Disk.tells g.D.Disk.content (LeavesSince g.D.Disk.moment g.D.Disk.left_since g.B.Since.moment g.B.Since.left) script c.args.entries.items) (sym c.break_off-in-Err.ensures.log) cut
+    subst (IsCutShort g.D.Disk.tells g.D.Disk.content (LeavesSince g.D.Disk.moment g.D.Disk.left_since g.B.Since.moment g.B.Since.left) script c.args.entries.items c.args.start) (sym c.break_off-in-Err.ensures.log) cut
