@@ -497,6 +497,25 @@ fn a_write_of_a_gate_fails(rt: HostRuntime) -> Result<(), Fail> {
     is_left(&rt, alloc, 2, fine(0, NONE), none)
 }
 
+// The least number of writes and syncs of a run of the three clients, whichever entries go together. The header takes seven. Two
+// clients append twice each, the second time once the first entry has landed: four calls for the first entries, and four for the
+// second. The five entries leave a group that isn't whole, and its filler takes four of its own.
+const LEAST_CALLS: u64 = 19;
+
+// Whether a run of the three clients ended as it should over a device that fails in its k-th write or sync: the device failed; or
+// the run was over before, which no run is in its least number of calls.
+fn is_failed_or_over(done: &Done<MemDisk>, sink: &MemSink, k: u64) -> bool {
+    if LEAST_CALLS < k && done.log.faults() == 0 {
+        return ended_well(done);
+    }
+    let wanted = CallAnswer {
+        number: 5,
+        acked: done.acked,
+        text: b"hyder: device log\n",
+    };
+    is_answered(done, sink, wanted)
+}
+
 // How many entries are acknowledged where three clients run over a device that fails, and how many a crash then leaves.
 fn crashed<R: Threads + Wait + Sync>(
     rt: &R,
@@ -509,12 +528,7 @@ fn crashed<R: Threads + Wait + Sync>(
 {
     let (done, sink) = ask(rt, alloc, RUN, THREE_CLIENTS, failing(alloc, k)?, &OpenGate)?;
     let acked = done.acked;
-    let wanted = CallAnswer {
-        number: 5,
-        acked,
-        text: b"hyder: device log\n",
-    };
-    let is_told = is_answered(&done, &sink, wanted);
+    let is_told = is_failed_or_over(&done, &sink, k);
     drop(sink);
     let log = ensured(log_of(done), is_told, "the device failed")?;
     let log = log.stop(pattern);
@@ -524,6 +538,7 @@ fn crashed<R: Threads + Wait + Sync>(
 }
 
 // A crash after a failure leaves the entries that were acknowledged, and at most one batch more: each client has at most one entry in it.
+// How many calls a run makes depends on which entries go together, so a run may be over before the last of these calls.
 #[test]
 fn a_device_fails_under_three_clients(rt: HostRuntime) -> Result<(), Fail> {
     let alloc = rt.alloc();

@@ -2,7 +2,7 @@
 ghost use Rattle.std.specs.Prelude.{◌≡◌, ◌+◌, ◌<◌, ◌≤◌, All, IfOk, IfSome, IsTrue, length, ℕ, []};
 ghost use Rattle.hy_base.specs.Shape.{IsGoodShape, IsWithin};
 ghost use Rattle.hy_hub.specs.Calls.{IsIdle};
-ghost use Rattle.run_tests.specs.Trial.{IsTrial, IsPutOf};
+ghost use Rattle.run_tests.specs.Trial.{IsTrial, IsPutOf, TakesAll};
 
 use crate::calls::empty;
 use crate::courses::course_of;
@@ -116,34 +116,36 @@ fn begin<D: Disk, B: Since, R: Wait>(
     hub.begin(rt, pass, client)
 }
 
-/// Whether the client's next program begins.
+/// The number of the client's next program, where it begins.
 pub fn begins<D: Disk, B: Since, R: Wait>(
     rt: &R,
     shape: Shape,
     hub: &Hub<D, B>,
     pass: &mut Pass<Contents<D, B>>,
     client: u8,
-) -> bool
+) -> Option<u32>
     requires trial { IsTrial hub.now shape pass.old }
     requires client { IsWithin 1 5 client }
     ensures trial { IsTrial hub.now shape pass.new }
     ensures parts { pass.new.parts ≡ pass.old.parts }
 {
-    let begun = begin(rt, shape, hub, pass, client);
-    let is_begun = begun.is_ok();
+    let begun = begin(rt, shape, hub, pass, client).ok()?;
+    let number = begun.number;
     drop(begun);
-    is_begun
+    Some(number)
 }
 
-/// The client's entry is appended.
+/// The entry of the client's program of a number is appended.
 pub fn append<D: Disk, B: Since, R: Wait>(
     rt: &R,
     shape: Shape,
     hub: &Hub<D, B>,
     pass: &mut Pass<Contents<D, B>>,
     client: u8,
+    number: u32,
     entry: Entry,
 ) -> Result<Pos, AppendRefusal>
+    requires free { TakesAll B.suits }
     requires trial { IsTrial hub.now shape pass.old }
     requires client { IsWithin 1 5 client }
     requires own { IsPutOf client entry }
@@ -151,7 +153,7 @@ pub fn append<D: Disk, B: Since, R: Wait>(
     ensures parts { pass.new.parts ≡ pass.old.parts }
 {
     let _ = shape;
-    hub.append(rt, pass, client, entry)
+    hub.append(rt, pass, client, number, entry)
 }
 
 // What a server's look gives, rolled and published.
@@ -220,16 +222,17 @@ pub fn put_once<D: Disk, B: Since, R: Wait>(
     pass: &mut Pass<Contents<D, B>>,
     client: u8,
 ) -> Option<Result<Pos, AppendRefusal>>
+    requires free { TakesAll B.suits }
     requires trial { IsTrial hub.now shape pass.old }
     requires client { IsWithin 1 5 client }
     ensures trial { IsTrial hub.now shape pass.new }
     ensures parts { pass.new.parts ≡ pass.old.parts }
 {
     let begun = begin(rt, shape, hub, pass, client).ok()?;
-    let snap = begun.snap;
+    let (number, snap) = (begun.number, begun.snap);
     drop(begun);
     let entry = put(alloc, client, snap, b'a')?;
-    Some(append(rt, shape, hub, pass, client, entry))
+    Some(append(rt, shape, hub, pass, client, number, entry))
 }
 
 // A small hub, with the one pass that has all its parts.
@@ -295,24 +298,25 @@ impl Bench {
         put_once(rt, alloc, shape, &self.hub, &mut self.pass, client)
     }
 
-    // A put of the client on a snapshot, whether or not it began there.
+    // A put of the client's program of a number on a snapshot, whether or not it began there.
     fn append<R: Wait>(
         &mut self,
         rt: &R,
         client: u8,
+        number: u32,
         snap: Pos,
     ) -> Option<Result<Pos, AppendRefusal>>
         requires { IsWithin 1 2 client }
     {
         let entry = put(self.alloc, client, snap, b'b')?;
         let (hub, pass) = (&self.hub, &mut self.pass);
-        Some(append(rt, self.shape, hub, pass, client, entry))
+        Some(append(rt, self.shape, hub, pass, client, number, entry))
     }
 
-    fn end<R: Wait>(&mut self, rt: &R, client: u8) -> Result<(), EndRefusal>
+    fn end<R: Wait>(&mut self, rt: &R, client: u8, number: u32, snap: Pos) -> Result<(), EndRefusal>
         requires { IsWithin 1 2 client }
     {
-        self.hub.end(rt, &mut self.pass, client)
+        self.hub.end(rt, &mut self.pass, client, number, snap)
     }
 
     fn pad<R: Wait>(&mut self, rt: &R, server: u8) -> Result<Pos, PadRefusal>
@@ -432,11 +436,18 @@ fn a_call_out_of_turn_is_refused(rt: HostRuntime) -> Result<(), Fail> {
     let twice = BeginRefusal::OutOfTurn { client, phase };
     assert!(rt; bench.begin(&rt, 1).err() == Some(twice));
     let other = AppendRefusal::OutOfTurn { client, phase };
-    assert!(rt; bench.append(&rt, 1, 0) == Some(Err(other)));
-    assert!(rt; bench.end(&rt, 1) == Ok(()));
+    assert!(rt; bench.append(&rt, 1, 2, 0) == Some(Err(other)));
+    assert!(rt; bench.append(&rt, 1, 1, 1) == Some(Err(other)));
+    assert!(rt; bench.append(&rt, 1, 3, 1) == Some(Err(other)));
+    let busy = EndRefusal::OutOfTurn { client, phase };
+    assert!(rt; bench.end(&rt, 1, 2, 0) == Err(busy));
+    assert!(rt; bench.end(&rt, 1, 1, 1) == Err(busy));
+    assert!(rt; bench.end(&rt, 1, 3, 1) == Err(busy));
+    assert!(rt; bench.end(&rt, 1, 2, 1) == Ok(()));
     let phase = Phase::Idle;
     let idle = EndRefusal::OutOfTurn { client, phase };
-    assert!(rt; bench.end(&rt, 1) == Err(idle));
+    assert!(rt; bench.end(&rt, 1, 2, 1) == Err(idle));
+    assert!(rt; bench.end(&rt, 1, 3, 1) == Err(idle));
     drop(bench);
     Ok(())
 }
@@ -475,7 +486,7 @@ fn an_append_that_fails_stops_the_hub(rt: HostRuntime) -> Result<(), Fail> {
     assert!(rt; bench.put(&rt, 1) == Some(Err(AppendRefusal::Device)));
     let stopped = AppendRefusal::Stopped { at: 1 };
     assert!(rt; bench.put(&rt, 2) == Some(Err(stopped)));
-    assert!(rt; bench.end(&rt, 1) == Ok(()));
+    assert!(rt; bench.end(&rt, 1, 1, 0) == Ok(()));
     let wanted = [
         Event::Begin { client: 1 },
         Event::Begin { client: 2 },
@@ -539,6 +550,7 @@ fn run_client<D: Disk, B: Since, R: Threads + Wait + Sync>(
     pass: &mut Pass<Contents<D, B>>,
     client: u8,
 ) -> Option<()>
+    requires free { TakesAll B.suits }
     requires trial { IsTrial hub.now SHAPE pass.old }
     requires client { IsWithin 1 2 client }
     ensures trial { IsTrial hub.now SHAPE pass.new }
@@ -565,6 +577,7 @@ fn run_errand<D: Disk, B: Since, R: Threads + Wait + Sync>(
     hub: &Hub<D, B>,
     errand: &mut Errand<D, B>,
 )
+    requires free { TakesAll B.suits }
     requires client { IsWithin 1 2 errand.old.client }
     requires trial { IsTrial hub.now SHAPE errand.old.pass }
     ensures trial { IsTrial hub.now SHAPE errand.new.pass }
@@ -581,6 +594,7 @@ fn run_errands<D: Disk + Send, B: Since + Send, R: Threads + Wait + Sync>(
     hub: &Hub<D, B>,
     errands: &mut [Errand<D, B>],
 )
+    requires free { TakesAll B.suits }
     requires clients { All (λ errand. IsWithin 1 2 errand.client) errands.old }
     requires trial { All (λ errand. IsTrial hub.now SHAPE errand.pass) errands.old }
     ensures trial { All (λ errand. IsTrial hub.now SHAPE errand.pass) errands.new }
@@ -591,7 +605,7 @@ fn run_errands<D: Disk + Send, B: Since + Send, R: Threads + Wait + Sync>(
         errands,
         2,
         &|_, errand: &mut Errand<D, B>|
-            requires { IsWithin 1 2 errand.now.client × IsTrial hub.now SHAPE errand.now.pass }
+            requires { TakesAll B.suits × IsWithin 1 2 errand.now.client × IsTrial hub.now SHAPE errand.now.pass }
             ensures { IsTrial hub.entry.now SHAPE errand.exit.now.pass }
         { run_errand(rt, alloc, hub, errand) },
     );

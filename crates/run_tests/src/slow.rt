@@ -2,13 +2,14 @@
 //! who wait are woken. A call that isn't woken is told by a limit, and its thread is left behind.
 ghost use Rattle.std.specs.Prelude.{◌≡◌, ◌≤◌, ◌<◌, ◌+◌, length, ℕ};
 ghost use Rattle.std.specs.Arc.{arc_value};
-ghost use Rattle.hy_base.specs.Shape.{IsWithin};
-ghost use Rattle.run_tests.specs.Trial.{IsTrial, fives};
+ghost use Rattle.hy_base.specs.Shape.{IsWithin, IsGoodShape};
+ghost use Rattle.run_tests.specs.Trial.{IsTrial};
 
 use crate::calls::empty;
 use crate::hub::{FIVES, OPENING, append, begins, hub_on, open_on, put, put_once};
 use crate::signals::{IN_SYNC, IN_TURN, KEEPS_TURN, QUIET, Signals, pause, reaches};
 use crate::slow_disk::SlowDisk;
+use hy_base::Shape;
 use hy_disk::Tuned;
 use hy_hist::Pass;
 use hy_hub::{Contents, Hub};
@@ -45,25 +46,33 @@ struct Side {
     signals: Arc<Signals, Global>,
     call: Call,
     client: u8,
-    ghost trial: { IsTrial (arc_value hub) fives pass },
+    // That of the client's program.
+    number: u32,
+    shape: Shape,
+    ghost trial: { IsTrial (arc_value hub) shape pass },
     ghost client_within: { IsWithin 1 5 client },
 }
 
 impl Side {
     // The client's program begins. Where it doesn't, its put is refused.
     fn begin<R: Wait>(&mut self, rt: &R) {
-        let _begun = begins(rt, FIVES, &self.hub, &mut self.pass, self.client);
+        let (hub, pass) = (&self.hub, &mut self.pass);
+        if let Some(number) = begins(rt, self.shape, hub, pass, self.client) {
+            self.number = number;
+        }
     }
 
     fn put<R: Wait>(&mut self, rt: &R) {
         if let Some(entry) = put(self.alloc, self.client, 0, b'a') {
-            let client = self.client;
-            drop(append(rt, FIVES, &self.hub, &mut self.pass, client, entry));
+            let (client, number) = (self.client, self.number);
+            let (hub, pass) = (&self.hub, &mut self.pass);
+            drop(append(rt, self.shape, hub, pass, client, number, entry));
         }
     }
 
     fn end<R: Wait>(&mut self, rt: &R) {
-        drop(self.hub.end(rt, &mut self.pass, self.client));
+        let (client, number) = (self.client, self.number);
+        drop(self.hub.end(rt, &mut self.pass, client, number, 0));
     }
 
     fn pad<R: Wait>(&mut self, rt: &R) {
@@ -120,16 +129,19 @@ struct Crowd {
     pass: Pass<Contents<SlowDisk, Brand>>,
     signals: Arc<Signals, Global>,
     split: u64,
-    ghost trial: { IsTrial (arc_value hub) fives pass },
+    shape: Shape,
+    ghost trial: { IsTrial (arc_value hub) shape pass },
     ghost parts: { pass.parts + split ≡ 129 },
 }
 
 impl Crowd {
-    fn new(alloc: Global, disk: MemDisk) -> Result<Crowd, Fail> {
+    fn new(alloc: Global, disk: MemDisk, shape: Shape) -> Result<Crowd, Fail>
+        requires { IsGoodShape shape }
+    {
         let signals = Arc::new(alloc, Signals::new())?;
         let slow = SlowDisk::new(disk, Arc::try_clone(&signals)?);
-        let log = open_on(alloc, slow, FIVES)?;
-        let (hub, pass) = hub_on::<SlowDisk, Brand>(alloc, FIVES, log)?;
+        let log = open_on(alloc, slow, shape)?;
+        let (hub, pass) = hub_on::<SlowDisk, Brand>(alloc, shape, log)?;
         let hub = Arc::new(alloc, hub)?;
         Ok(Crowd {
             alloc,
@@ -137,6 +149,7 @@ impl Crowd {
             pass,
             signals,
             split: 0,
+            shape,
         })
     }
 
@@ -163,6 +176,8 @@ impl Crowd {
             signals,
             call,
             client,
+            number: 1,
+            shape: self.shape,
         };
         let _thread = thread::spawn(&rt, move || side.make(&rt))?;
         Ok(())
@@ -184,7 +199,7 @@ impl Crowd {
 
     // An entry is appended, so that a group isn't whole, and the turn to roll is taken.
     fn prepare<R: Wait>(&mut self, rt: &R) -> bool {
-        let first = put_once(rt, self.alloc, FIVES, &self.hub, &mut self.pass, 1);
+        let first = put_once(rt, self.alloc, self.shape, &self.hub, &mut self.pass, 1);
         self.hub.take_roll(rt, 1) && first == Some(Ok(1))
     }
 
@@ -222,9 +237,12 @@ fn syncs_of<R: Threads + Wait + Clock + Copy + Send + 'static>(
     rt: R,
     alloc: Global,
     disk: MemDisk,
+    shape: Shape,
     millis: u64,
-) -> Result<Option<u64>, Fail> {
-    let mut crowd = Crowd::new(alloc, disk)?;
+) -> Result<Option<u64>, Fail>
+    requires { IsGoodShape shape }
+{
+    let mut crowd = Crowd::new(alloc, disk, shape)?;
     let prepared = crowd.prepare(&rt);
     let kept = crowd.are_kept(rt, millis);
     crowd.hub.end_roll(1);
@@ -246,7 +264,7 @@ const TRIES: u64 = 20;
 fn those_who_wait_go_together_and_are_woken(rt: HostRuntime) -> Result<(), Fail> {
     for millis in 1..TRIES {
         let disk = empty(rt.alloc())?;
-        let syncs = syncs_of(rt, rt.alloc(), disk, 2 * millis)?.expect(&rt, "all are woken");
+        let syncs = syncs_of(rt, rt.alloc(), disk, FIVES, 2 * millis)?.expect(&rt, "all are woken");
         if syncs == SYNCS {
             return Ok(());
         }
@@ -260,7 +278,23 @@ fn those_who_wait_are_woken_by_a_failure(rt: HostRuntime) -> Result<(), Fail> {
     for k in [6, 11] {
         let mut disk = empty(rt.alloc())?;
         disk.arm(OPENING + k);
-        assert!(rt; syncs_of(rt, rt.alloc(), disk, 5)?.is_some());
+        assert!(rt; syncs_of(rt, rt.alloc(), disk, FIVES, 5)?.is_some());
     }
+    Ok(())
+}
+
+// One group of two.
+const ONE_PAIR: Shape = Shape {
+    group: 2,
+    window: 1,
+    cap: 2,
+};
+
+#[test]
+fn those_who_wait_are_woken_by_a_full_log(rt: HostRuntime) -> Result<(), Fail> {
+    // The leader's entry is the last that the log takes. The landing wakes the first of the others alone, and each that is
+    // refused wakes the next; the last one wakes the pad.
+    let disk = empty(rt.alloc())?;
+    assert!(rt; syncs_of(rt, rt.alloc(), disk, ONE_PAIR, 5)?.is_some());
     Ok(())
 }
