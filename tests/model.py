@@ -10,27 +10,42 @@ import struct
 PAGE = 256
 GATE = 0x47
 MAGIC = b"HYDERLOG"
-MOST_BODY = 18634
 U64 = 2**64 - 1
 MOST_CAP = 2147483648
 MOST_SOURCE = 16777216
 
-Shape = collections.namedtuple("Shape", "group window cap")
-# points: ascending keys; spans: ascending (lo, hi); writes: ascending (key, bytes or None). A filler has client 0.
-Entry = collections.namedtuple("Entry", "server client snap points spans writes")
+Shape = collections.namedtuple("Shape", "group window cap version", defaults=(1,))
+# points: ascending keys; spans: ascending (lo, hi); writes: ascending (key, bytes or None); whether it is at Snapshot isolation. A filler has client 0.
+Entry = collections.namedtuple("Entry", "server client snap points spans writes snapshot", defaults=(False,))
 Answer = collections.namedtuple("Answer", "status text log points")
 Script = collections.namedtuple("Script", "shape servers clients")
 Client = collections.namedtuple("Client", "server programs")
+Program = collections.namedtuple("Program", "commands snapshot", defaults=(False,))
 
 
 def is_good(shape):
-    return 1 <= shape.group <= 8 and 1 <= shape.window <= 64 and shape.group <= shape.cap <= MOST_CAP and shape.cap % shape.group == 0
+    return (1 <= shape.group <= 8 and 1 <= shape.window <= 64 and shape.group <= shape.cap <= MOST_CAP and shape.cap % shape.group == 0
+            and 1 <= shape.version <= 2)
+
+
+def tells_isolation(version):
+    """Whether an entry has a byte for its isolation."""
+    return version >= 2
+
+
+def most_body(version):
+    return 18635 if tells_isolation(version) else 18634
 
 
 def base_of(shape, number):
     """The premeld base of a group."""
     window = (number - 1) // shape.window
     return shape.group * shape.window * (window - 1) if window >= 1 else 0
+
+
+def shape_line(shape):
+    """The line of a script that asks for a shape."""
+    return b" ".join([b"shape", *(b"%d" % number for number in shape[:3 if shape.version == 1 else 4])])
 
 
 def is_filler(entry):
@@ -89,14 +104,15 @@ def anything(_number):
     return None
 
 
-def decode(body):
+def decode(body, version=1):
     reader = Reader(body, 0, len(body))
     filler = reader.field(1, lambda kind: kind > 1 and "kind") == 0
     server = reader.field(1, lambda n: not 1 <= n <= 8 and "server")
     client = reader.field(1, lambda n: (n != 0 if filler else not 1 <= n <= 128) and "client")
+    snapshot = tells_isolation(version) and reader.field(1, lambda n: n > (0 if filler else 1) and "iso") == 1
     snap = reader.field(4, lambda n: filler and n != 0 and "snap")
-    most = 0 if filler else 64
-    counts = [reader.field(1, lambda n, least=least: not least <= n <= most and "count") for least in (0, 0, 0 if filler else 1)]
+    reads, most = 0 if filler or snapshot else 64, 0 if filler else 64
+    counts = [reader.field(1, lambda n, least=least, upto=upto: not least <= n <= upto and "count") for least, upto in ((0, reads), (0, reads), (0 if filler else 1, most))]
     points, spans, writes = [], [], []
     for _ in range(counts[0]):
         points.append(reader.field(8, lambda key: bool(points) and key <= points[-1] and "order"))
@@ -116,14 +132,14 @@ def decode(body):
         writes.append((key, reader.value()))
     if reader.at < reader.end:
         raise Bad(reader.at, "long")
-    return Entry(server, client, snap, tuple(points), tuple(spans), tuple(writes))
+    return Entry(server, client, snap, tuple(points), tuple(spans), tuple(writes), snapshot)
 
 
 def decode_at(body, position, shape):
-    entry = decode(body)
+    entry = decode(body, shape.version)
     start = (position - 1) // shape.group * shape.group + 1
     if not is_filler(entry) and (entry.snap % shape.group or entry.snap > start - 1):
-        raise Bad(3, "snap")
+        raise Bad(4 if tells_isolation(shape.version) else 3, "snap")
     return entry
 
 
@@ -131,9 +147,10 @@ def value_bytes(value):
     return b"\0" if value is None else struct.pack("<BH", 1, len(value)) + value
 
 
-def encode(entry):
+def encode(entry, version=1):
     kind = 0 if is_filler(entry) else 1
-    parts = [struct.pack("<BBBIBBB", kind, entry.server, entry.client, entry.snap, len(entry.points), len(entry.spans), len(entry.writes))]
+    isolation = bytes([entry.snapshot]) if tells_isolation(version) else b""
+    parts = [struct.pack("<BBB", kind, entry.server, entry.client) + isolation + struct.pack("<IBBB", entry.snap, len(entry.points), len(entry.spans), len(entry.writes))]
     parts += [struct.pack("<Q", key) for key in entry.points]
     parts += [struct.pack("<QQ", lo, hi) for lo, hi in entry.spans]
     parts += [struct.pack("<Q", key) + value_bytes(value) for key, value in entry.writes]
@@ -155,19 +172,19 @@ class Config(Exception):
 
 
 def header_of(shape):
-    head = bytes([GATE]) + MAGIC + struct.pack("<BBBI", 1, shape.group, shape.window, shape.cap)
+    head = bytes([GATE]) + MAGIC + struct.pack("<BBBI", shape.version, shape.group, shape.window, shape.cap)
     return head + bytes(PAGE - len(head))
 
 
 def shape_in(page):
-    return Shape(page[10], page[11], int.from_bytes(page[12:16], "little"))
+    return Shape(page[10], page[11], int.from_bytes(page[12:16], "little"), page[9])
 
 
 def header_fault(page):
     """Why these 256 bytes behind their gate are no header, or none."""
     if page[1:9] != MAGIC:
         return "magic"
-    if page[9] != 1:
+    if page[9] not in (1, 2):
         return "version"
     if not is_good(shape_in(page)):
         return "shape"
@@ -189,13 +206,13 @@ def record_of(body):
     return record + bytes(PAGE * pages_of(len(body)) - len(record))
 
 
-def record_at(device, page):
+def record_at(device, page, version=1):
     """The body of the record whose pages begin here, its gate aside, and the page behind it."""
     at = PAGE * page
     if at + 5 > len(device):
         raise BadPage(page, "short")
     length = int.from_bytes(device[at + 1:at + 5], "little")
-    if not 1 <= length <= MOST_BODY:
+    if not 1 <= length <= most_body(version):
         raise BadPage(page, "length")
     after = page + pages_of(length)
     if PAGE * after > len(device):
@@ -205,11 +222,11 @@ def record_at(device, page):
     return device[at + 5:at + 5 + length], after
 
 
-def is_torn_batch(device, page, left):
+def is_torn_batch(device, page, left, version):
     """Whether the rest of one to eight whole records stands behind the gate, and then a closed gate; `left` more have a place."""
     for _ in range(min(8, left)):
         try:
-            _, page = record_at(device, page)
+            _, page = record_at(device, page, version)
         except BadPage:
             return False
         if PAGE * page >= len(device):
@@ -239,9 +256,9 @@ def read_log(device, asked=None):
     while PAGE * page + 1 < len(device) and device[PAGE * page] == GATE:
         if len(bodies) == shape.cap:
             raise BadPage(page, "cap")
-        body, page = record_at(device, page)
+        body, page = record_at(device, page, shape.version)
         bodies.append(body)
-    if PAGE * page + 1 < len(device) and device[PAGE * page] != 0 and not is_torn_batch(device, page, shape.cap - len(bodies)):
+    if PAGE * page + 1 < len(device) and device[PAGE * page] != 0 and not is_torn_batch(device, page, shape.cap - len(bodies), shape.version):
         raise BadPage(page, "gate")
     return shape, bodies, page
 
@@ -421,7 +438,7 @@ Effects = collections.namedtuple("Effects", "answers points spans writes")
 
 
 def execute(program, rows):
-    """A program on a map of live rows: the lines that it is answered, its points, spans and writes."""
+    """A program on a map of live rows: the lines that it is answered, its points, spans and writes. At Snapshot isolation it records no reads."""
     answers, points, spans, writes = [], set(), set(), {}
 
     def read(key):
@@ -430,7 +447,7 @@ def execute(program, rows):
         points.add(key)
         return rows.get(key)
 
-    for name, *args in program:
+    for name, *args in program.commands:
         if name == "get":
             value = read(args[0])
             answers.append(b"none" if value is None else b"value " + value)
@@ -458,6 +475,8 @@ def execute(program, rows):
             spans.add((lo, pairs[-1][0] if len(pairs) == most else hi))
             answers.append(b"rows %d" % len(pairs))
             answers += [b"pair %d %s" % pair for pair in pairs]
+    if program.snapshot:
+        points, spans = set(), set()
     return Effects(answers, tuple(sorted(points)), tuple(sorted(spans)), tuple(sorted(writes.items())))
 
 
@@ -524,7 +543,7 @@ class ScriptReader:
             return sum(client.server == numbers[0] for client in self.clients) == 16
         if word == b"begin":
             return len(self.clients[-1].programs) == 10000
-        return word in COMMANDS and len(self.program) == 64
+        return word in COMMANDS and len(self.program.commands) == 64
 
     def read(self, number, line):
         word = line.split(b" ")[0]
@@ -532,6 +551,11 @@ class ScriptReader:
             raise Refused(number, "word")
         words = line.split(b" ")[1:]
         kinds = WORDS[word]
+        if word == b"shape" and len(words) == 4:
+            kinds = "nnnn"
+        snapshot = word == b"begin" and words == [b"snapshot"]
+        if snapshot:
+            words = []
         if len(words) != len(kinds) or b"" in words:
             raise Refused(number, "form")
         if any(kind == "n" and not is_number(text) for kind, text in zip(kinds, words)):
@@ -545,9 +569,11 @@ class ScriptReader:
             raise Refused(number, "order")
         if self.count_fault(word, fields):
             raise Refused(number, "count")
-        self.take(number, word, fields)
+        if snapshot and self.shape.version == 1:
+            raise Refused(number, "version")
+        self.take(number, word, fields, snapshot)
 
-    def take(self, number, word, fields):
+    def take(self, number, word, fields, snapshot):
         if word == b"shape":
             self.shape, self.state = Shape(*fields), "servers"
         elif word == b"servers":
@@ -555,7 +581,7 @@ class ScriptReader:
         elif word == b"client":
             self.clients.append(Client(fields[0], []))
         elif word == b"begin":
-            self.program = []
+            self.program = Program([], snapshot)
         elif word == b"end":
             self.clients[-1].programs.append(self.program)
             self.program = None
@@ -564,7 +590,7 @@ class ScriptReader:
         elif self.state == "events":
             self.events.append((number, (word.decode(), *fields)))
         else:
-            self.program.append((word.decode(), *fields))
+            self.program.commands.append((word.decode(), *fields))
 
 
 def read_source(source, simulated):
@@ -655,7 +681,8 @@ class Core:
             self.finish(client, effects.answers, ("full",))
         else:
             self.need(effects.writes and not full)
-            entry = Entry(self.server(client) + 1, client + 1, snap, effects.points, effects.spans, effects.writes)
+            snapshot = self.script.clients[client].programs[self.next[client]].snapshot
+            entry = Entry(self.server(client) + 1, client + 1, snap, effects.points, effects.spans, effects.writes, snapshot)
             if not self.append(entry, client):
                 self.appended_by(client, effects)
 
@@ -761,13 +788,16 @@ def run_text(core):
 def dump_text(shape, entries):
     if shape is None:
         return b"empty\n"
-    lines = [b"log group %d window %d cap %d entries %d" % (*shape, len(entries))]
+    told = tells_isolation(shape.version)
+    version = b" version %d" % shape.version if told else b""
+    lines = [b"log group %d window %d cap %d%s entries %d" % (*shape[:3], version, len(entries))]
     for position, entry in enumerate(entries, 1):
         if is_filler(entry):
             lines.append(b"entry %d server %d filler" % (position, entry.server))
         else:
             counts = (len(entry.points), len(entry.spans), len(entry.writes))
-            lines.append(b"entry %d server %d client %d snap %d points %d spans %d writes %d" % (position, entry.server, entry.client, entry.snap, *counts))
+            isolation = b" iso %d" % entry.snapshot if told else b""
+            lines.append(b"entry %d server %d client %d snap %d points %d spans %d writes %d%s" % (position, entry.server, entry.client, entry.snap, *counts, isolation))
     return lines_text(lines)
 
 
@@ -813,7 +843,7 @@ def generated(seed, size):
             [("scan", key, key + 9, 5), ("put", other, value)],
             [("get", other)],
         ][x % 4]
-        clients[number % 8].programs.append(program)
+        clients[number % 8].programs.append(Program(program))
     return Script(Shape(4, 4, 8 * size), 4, clients)
 
 
@@ -903,7 +933,7 @@ class Call:
         core = Core(script, entries, point)
         core.run_tail()
         for entry in core.fold.entries[len(entries):]:
-            self.log, page = appended(self.log, page, encode(entry))
+            self.log, page = appended(self.log, page, encode(entry, script.shape.version))
         if "--save" in options:
             self.points = saved(self.points or b"", script.shape, point_of(script.shape, core.fold, core.length))
         return run_text(core)

@@ -14,16 +14,16 @@ use Rattle.hy_base.specs.declared.layout.Shape.{Shape}
 use Rattle.hy_base.specs.declared.record.EntryKind.{EntryKind}
 use Rattle.hy_disk.specs.Content.{Content}
 use Rattle.hy_log.specs.View.{LogView, HoldsUpTo}
+use Rattle.hy_base.specs.Entry.{IsSoundEntry}
 use Rattle.hy_formats.specs.EntryFormat.{spelling}
 use Rattle.hy_base.specs.declared.workload.Event.{Event}
 use Rattle.hy_base.specs.declared.workload.ArmedStop.{ArmedStop}
-use Rattle.hy_rules.specs.Moves.{Setting, State, MayAdd, after, opening, is_stop, surviving}
-use Rattle.hy_hub.proofs.Turns.{unarmed}
+use Rattle.hy_rules.specs.Moves.{Setting, State, MayAdd, opening, is_stop, surviving}
 use Rattle.hy_rolling.specs.Rolling.{Roll, rolled_upto, Stands}
 use Rattle.hy_rules.specs.Runs.{setting_of as script_setting, opening_of, own_entry, pending}
 use Rattle.hy_hub.specs.Origin.{Origin}
 use Rattle.hy_hub.specs.declared.occurrence.Occurrence.{Occurrence}
-use Rattle.hy_hub.specs.declared.occurrence.Occurrence.TheVariants.{Opened, Happened, Halted, Lifted, Landed}
+use Rattle.hy_hub.specs.declared.occurrence.Occurrence.TheVariants.{Opened, Lifted}
 use Rattle.hy_hub.specs.Past.{HasStood}
 use Rattle.hy_hub.specs.Calls.{events_in_list}
 use Rattle.hy_hub.specs.Entries.{Asked}
@@ -32,7 +32,7 @@ use Rattle.hy_hub.specs.declared.occurrence.Batch.TheVariants.{Appends, Fillers}
 use Rattle.hy_hub.specs.Order.{MayBeNext}
 use Rattle.hy_hub.proofs.Orders.{failed_before}
 use Rattle.hy_hub.proofs.Events.{events_join}
-use Rattle.hy_hub.proofs.Later.{first_moves}
+use Rattle.hy_hub.proofs.Later.{first_moves, unarmed_led, not_empty}
 use Rattle.hy_base.specs.declared.workload.Event.TheVariants.{Append, Pad}
 use Rattle.hy_base.specs.declared.record.EntryKind.TheVariants.{Filler}
 use Rattle.hy_hub.specs.Trace.{setting, setting_in, state_after, faults_at_opening, failed_lift, failed_entries, entries_of_lift, batch_entries, events_told, asked_entry, asked_event, after_all, AreMoves}
@@ -45,7 +45,6 @@ use Rattle.hy_hub.proofs.Told.{told_setting}
 use Rattle.hy_hub.proofs.Passing.{log_more}
 use Rattle.hy_clients.specs.Passing.{Fits, OpensStanding, opened_log, opened_start}
 use Rattle.hy_hub.specs.Suits.{AllSuit, SuitsNext}
-use Rattle.hy_hub.proofs.Later.{not_empty}
 use Rattle.hy_clients.proofs.Following.{run_is}
 use Rattle.hy_clients.specs.Finished.{IsCutShort, IsTornBehind, IsAskedBy, AreAsked, MayAllAdd}
 use Rattle.hy_rules.specs.Moves.{LeadTo}
@@ -79,15 +78,6 @@ none_asked script found start events = record { front = []; begins = (events, re
 one_left : {X : Type 0} (o : Option X) → take 1 (option_to_list o) ≡ option_to_list o
 one_left None = refl
 one_left (Some x) = refl
-
--- a list without stops leaves none armed
-calm_led : (w : Setting) (s : State) (occurrences : List Occurrence) → AreMoves w s occurrences → s.armed ≡ None → (after_all w s occurrences).armed ≡ None
-calm_led w s [] all calm = calm
-calm_led w s (Opened o ∷ occurrences) all calm = absurd all
-calm_led w s (Halted at risen ∷ occurrences) all calm = calm_led w s occurrences all calm
-calm_led w s (Lifted batch ∷ occurrences) all calm = calm_led w s occurrences all calm
-calm_led w s (Landed ∷ occurrences) all calm = calm_led w s occurrences all calm
-calm_led w s (Happened event added ∷ occurrences) all calm = calm_led w (after w s event added.entries) occurrences all.2 (unarmed w s event added.entries calm all.1)
 
 -- The events of a batch that may be next are those of entries that may be added. Where they suit, these are what the clients' programs leave.
 module _ (suits : State → Event → List EntryKind → Type 0) (script : Workload) (stood : Type 0) (only : (s : State) (event : Event) (added : List EntryKind) → suits s event added → stood → Fits script s event added) (before : List Occurrence) (same : setting_in before ≡ script_setting script) (calm : (state_after before).armed ≡ None) where
@@ -160,7 +150,7 @@ module _ {D : Type 0} {tells : Bool} {content : D → Content} {leaves : D → (
       entries = (state_after list).log;
       begins = found_first list closed.told;
       lawful = subst (λ (s : Shape). IsLawful s (state_after list).log) (opened_shape script same found_is) closed.told.lawful;
-      sound = closed.told.sound;
+      sound = subst (λ (s : Shape). AllByRecursion (IsSoundEntry s.version) (state_after list).log) (opened_shape script same found_is) closed.told.sound;
       events = events_in_list list;
       end = state_after list;
       moves = led script same found_is;
@@ -169,7 +159,7 @@ module _ {D : Type 0} {tells : Bool} {content : D → Content} {leaves : D → (
       leads_to = refl;
       log_shape = here script same found_is;
       count = closed.stored.count ∙ ap length closed.entries_are;
-      bodies = λ t. closed.stored.bodies t ∙ ap (map spelling) closed.entries_are;
+      bodies = λ t. closed.stored.bodies t ∙ (λ i. map (spelling (opened_shape script same found_is i).version) (closed.entries_are i));
       past = since_made script same found_is;
       torn = torn;
     }
@@ -199,7 +189,7 @@ module _ {D : Type 0} {tells : Bool} {content : D → Content} {leaves : D → (
           state = state_after before;
           moves = subst (λ (f : List EntryKind). LeadTo w (opening w f) (events_in_list before) (state_after before)) (sym found)
               (subst (λ (z : State). LeadTo w start (events_in_list before) z) (sym state) (subst (λ (es : List Event). LeadTo w start es (after_all w start cut.0)) (sym events) (moves_on w start cut.0 moves)));
-          may = may_all suits script (OpensStanding list) only before set_is (ap (λ (z : State). z.armed) state ∙ calm_led w start cut.0 moves refl) lift.1 next fit;
+          may = may_all suits script (OpensStanding list) only before set_is (ap (λ (z : State). z.armed) state ∙ unarmed_led w start cut.0 moves refl) lift.1 next fit;
         }
 
     behind : IsTornLog content leaves least (failed_entries list) log entries → IsTornBehind content leaves script (opened_log list) (opened_start list) (events_in_list list) (state_after list).log log
@@ -210,8 +200,8 @@ module _ {D : Type 0} {tells : Bool} {content : D → Content} {leaves : D → (
           asked = asked_of (failed_lift list) refl;
           few = torn.few;
           lawful = subst (λ (l : List EntryKind). IsLawful script.shape (l ++ failed_entries list)) mine (subst (λ (s : Shape). IsLawful s (entries ++ failed_entries list)) (here script same found_is) torn.lawful);
-          sound = torn.sound;
-          left = λ image is. subst (λ (s : Shape). HoldsUpTo s log.bodies (map spelling (failed_entries list)) image) (here script same found_is) (torn.left image is);
+          sound = subst (λ (s : Shape). AllByRecursion (IsSoundEntry s.version) (failed_entries list)) (here script same found_is) torn.sound;
+          left = λ image is. subst (λ (s : Shape). HoldsUpTo s log.bodies (map (spelling s.version) (failed_entries list)) image) (here script same found_is) (torn.left image is);
           past = subst (λ (n : ℕ). leaves log.disk (HasStood script.shape n (state_after list).log (failed_entries list))) found_is
               (subst (λ (es : List EntryKind). leaves log.disk (HasStood script.shape least es (failed_entries list))) mine (subst (λ (z : Shape). leaves log.disk (HasStood z least entries (failed_entries list))) (here script same found_is) torn.past));
         }
@@ -240,7 +230,7 @@ initial_cut tells content leaves log back entries start servers homes script ini
   entries = entries;
   begins = prefix_self entries;
   lawful = subst (λ (s : Shape). IsLawful s entries) same initial.lawful;
-  sound = initial.sound;
+  sound = subst (λ (s : Shape). AllByRecursion (IsSoundEntry s.version) entries) same initial.sound;
   events = [];
   end = opening_of script entries;
   moves = refl;
@@ -249,7 +239,7 @@ initial_cut tells content leaves log back entries start servers homes script ini
   leads_to = refl;
   log_shape = here ∙ (initial.shape ∙ same);
   count = count ∙ initial.count;
-  bodies = λ t. bodies t ∙ initial.bodies t;
+  bodies = λ t. bodies t ∙ (initial.bodies t ∙ ap (λ (s : Shape). map (spelling s.version) entries) same);
   past = λ t running. past t;
   torn = λ t some. absurd (some running);
 }

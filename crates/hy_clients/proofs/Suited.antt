@@ -87,5 +87,5 @@ pub may_end_by : (script : Workload) (client server number snap : ℕ) (program 
 may_end_by script client server number snap program rows f pass {suits} run home is live_rows left = subst (MayEndBy suits client number snap pass.seen) (sym left) (by (wrote (exec program (pairs_of rows)).1) refl)
   where
     by : (b : Bool) → wrote (exec program (pairs_of rows)).1 ≡ b → MayEndBy suits client number snap pass.seen (if b then Entry (Txn (intention server client snap (exec program (pairs_of rows)).1)) else ReadOnly snap)
-    by true w = λ later grows runs. appends script client server number snap program rows pass home is run live_rows later grows runs w
+    by true w = λ later grows runs. appends script client server number snap program rows pass home is run live_rows later grows runs.0 w
     by false w = λ later grows runs. ends script client server number snap program rows pass home is run live_rows later grows runs w

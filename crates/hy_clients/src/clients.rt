@@ -199,6 +199,7 @@ fn run_since<D: Disk + Send, B: Since + Send, R: Threads + Wait + Sync, G: Gate 
     requires shape { start.shape ≡ script.now.shape }
     requires since { IsTrue D.tells → LeavesSince D.moment D.left_since B.moment B.left log.disk (Holds log.shape log.bodies) }
     requires least { B.least ≡ length log.bodies }
+    requires version { B.version ≡ log.shape.version }
     requires takes { (s : State) (event : Event) (added : List EntryKind) → (StartStands entries.items start → Fits script.now s event added) → B.suits s event added }
     requires suits { (s : State) (event : Event) (added : List EntryKind) → B.suits s event added → StartStands entries.items start → Fits script.now s event added }
     requires threads { IsThreadCount threads }
@@ -214,7 +215,7 @@ fn run_since<D: Disk + Send, B: Since + Send, R: Threads + Wait + Sync, G: Gate 
         return Err(break_off(log));
     };
     let _ = start.base_tree();
-    match Hub::<D, B>::new(alloc, log, entries, start, script.servers(), &homes) {
+    match Hub::<D, B>::new(alloc, log, entries, start, script.servers(), homes) {
         Err(log) => Err(break_off(log)),
         Ok((hub, pass)) => run_on(rt, alloc, script, hub, pass, threads, gate),
     }

@@ -9,7 +9,7 @@ use Rattle.hy_base.specs.declared.workload.Home.{Home}
 use Rattle.hy_base.specs.declared.workload.Session.{Session}
 use Rattle.hy_base.specs.declared.workload.Phase.TheVariants.{Begun}
 use Rattle.hy_base.specs.Lists.{nth, change_nth}
-use Rattle.hy_base.specs.Script.{Workload}
+use Rattle.hy_base.specs.Script.{Workload, home_of}
 use Rattle.hy_base.proofs.NthLemmas.{nth_map, set_nth}
 use Rattle.hy_rules.specs.Validation.{live}
 use Rattle.hy_rules.specs.Exec.{exec}
@@ -54,9 +54,9 @@ kept_client_at script log cs xs (suc k) x are e =
 
 -- what a client passes
 pub passes_is : (script : Workload) (s : State) (client : ℕ) (c : Client) (x : Session) (test : Home → Session → Bool) → nth script.clients client ≡ Some c → nth s.sessions client ≡ Some x
-    → client_passes (setting_of script) s client test ≡ test (record { server = c.server; programs = length c.programs }) x
+    → client_passes (setting_of script) s client test ≡ test (home_of c) x
 passes_is script s client c x test p q =
-    let home : nth (setting_of script).homes client ≡ Some (record { server = c.server; programs = length c.programs }) = nth_map (λ (d : Client). record { server = d.server; programs = length d.programs }) script.clients client c p in
+    let home : nth (setting_of script).homes client ≡ Some (home_of c) = nth_map home_of script.clients client c p in
     (λ i. option_map_or (λ h. option_map_or (test h) (q i) false) (home i) false)
 
 none_passes : (o : Option Home) (test : Home → Session → Bool) → option_map_or (λ h. option_map_or (test h) None false) o false ≡ false

@@ -161,7 +161,7 @@ pad_restarts script h server stop rs is armed lawful boards =
       leads = restarted_is script h (kept_by stop own) (pages_with (Some stop) 1 own h.pages) rs is boards
           ∙ ap (λ (a : Option ArmedStop). option_map_or (λ k. restarted w (record s { log = h.log ++ replicate (surviving a (missing w (length h.log))) own })) a (record s { log = h.log ++ replicate (surviving a (missing w (length h.log))) own })) (sym armed);
       ends = lost_is h ∙ ap (λ (a : Option ArmedStop). done_of h ++ (if is_some a then lost_by_stop s 0 else [])) (sym armed);
-      whole = still_whole (with_body (Some stop) 1 (spelling own)) h.pages.bodies;
+      whole = still_whole (with_body (Some stop) 1 (spelling h.pages.shape.version own)) h.pages.bodies;
     }
 
 -- ---- an append in which a stop strikes
@@ -198,7 +198,7 @@ append_lost script h client x e stop rs is armed drops own begun lawful boards =
           ∙ (ap (λ (a : Option ArmedStop). option_map_or (λ k. restarted w (record s { log = h.log ++ []; sessions = change_nth at_next_program s.sessions client })) a (record s { log = h.log ++ []; sessions = change_nth at_next_program s.sessions client })) (sym armed)
           ∙ ap (after w s (Append client)) (sym no_entry)));
       ends = lost_is h ∙ (ap (λ (b : Bool). done_of h ++ (if b then ended s client (ByEntryAt (length h.log + 1)) ++ lost_by_stop s client else lost_by_stop s 0)) (sym drops) ∙ ap (λ (a : Option ArmedStop). done_of h ++ ended_by_append a s client) (sym armed));
-      whole = still_whole (with_body (Some stop) 1 (spelling e)) h.pages.bodies;
+      whole = still_whole (with_body (Some stop) 1 (spelling h.pages.shape.version e)) h.pages.bodies;
     }
 
 -- where the session with a number is kept
@@ -289,7 +289,7 @@ append_kept script h client pos snap x run e stop rs script_is is armed keeps at
           ∙ (append_assoc (done_of h) (ended_in_course t ∷ []) (lost_by_stop s client)
           ∙ (ap (λ es. done_of h ++ (es ++ lost_by_stop s client)) (sym (ended_is h client snap x run (EntryAt pos) b) ∙ ap (λ n. ended s client (ByEntryAt n)) at_end)
           ∙ (ap (λ (c : Bool). done_of h ++ (if c then ended s client (ByEntryAt (length h.log + 1)) ++ lost_by_stop s client else lost_by_stop s 0)) (sym keeps) ∙ ap (λ (a : Option ArmedStop). done_of h ++ ended_by_append a s client) (sym armed)))));
-      whole = still_whole (with_body (Some stop) 1 (spelling e)) h.pages.bodies;
+      whole = still_whole (with_body (Some stop) 1 (spelling h.pages.shape.version e)) h.pages.bodies;
     } in
     subst (λ (l : List EntryKind). StepsTo script h (record { log = l; pages = pages_with (Some stop) 1 e h.pages; rollers = rs; client_states = map abandoned_client_state xs; told = (h.told ++ t ∷ []) ++ all_abandoned 1 xs; armed = None }) (Append client)) (sym same_log) steps
   where

@@ -7,6 +7,7 @@ use Rattle.std.specs.List.{AllByRecursion}
 use Rattle.hy_base.specs.declared.record.EntryKind.{EntryKind}
 use Rattle.hy_base.specs.declared.workload.ArmedStop.{ArmedStop}
 use Rattle.hy_base.specs.declared.workload.Event.TheVariants.{Append}
+use Rattle.hy_base.specs.Entry.{FitsVersion}
 use Rattle.hy_base.specs.Log.{IsLawful}
 use Rattle.hy_base.specs.Script.{Workload, IsScript, IsClient}
 use Rattle.hy_base.proofs.NthLemmas.{All-nth}
@@ -54,13 +55,20 @@ module _ {script : Workload} {h : Holding} {client : ℕ} {e : EntryKind} (a : A
   begun = begun_at script h client a.is (append_begun script h client a.may)
 
   pub leaves : LeavesEntry h client
-  leaves = leaves_entry script h client a.is a.may
+  leaves = leaves_entry script h client a.script_is a.is a.may
 
   entry_is : begun.2.entry ≡ Some e
   entry_is =
       let step : left_entry h.client_states client ≡ begun.2.entry =
       (λ i. option_and_then (λ (y : ClientState). option_and_then (λ (r : Running). r.entry) y.running) (begun.3.is i)) ∙ ap (option_and_then (λ (r : Running). r.entry)) begun.3.running in
       sym step ∙ a.own
+
+  -- the log can hold it
+  pub appends_fit : FitsVersion h.pages.shape.version e
+  appends_fit =
+      let own : (f : EntryKind) × (begun.2.entry ≡ Some f) × FitsVersion h.pages.shape.version f = leaves begun.1 begun.2 begun.3.is begun.3.running in
+      let same : own.0 ≡ e = let f : Some own.0 ≡ Some e = sym own.1 ∙ entry_is in cc in
+      subst (FitsVersion h.pages.shape.version) same own.2
 
   left : LeftEntry script h client e
   left = left_entry_is script h client begun.0 begun.1 begun.2 e a.script_is a.is a.may begun.3 entry_is
@@ -105,3 +113,6 @@ module _ {script : Workload} {h : Holding} {client : ℕ} {e : EntryKind} (a : A
 
   pub struck_fits : (stop : ArmedStop) (k : Holding) → k ≡ struck stop e h → NextFits k client
   struck_fits stop k same = subst (λ (m : Holding). NextFits m client) (sym same) (next_fits script h client a.script_is a.is)
+
+  pub struck_leaves : (stop : ArmedStop) (k : Holding) → k ≡ struck stop e h → LeavesEntry k client
+  struck_leaves stop k same = subst (λ (m : Holding). LeavesEntry m client) (sym same) leaves

@@ -11,6 +11,7 @@ use Rattle.hy_base.specs.declared.workload.ArmedStop.{ArmedStop}
 use Rattle.hy_base.specs.declared.workload.Phase.TheVariants.{Idle, Begun}
 use Rattle.hy_base.specs.declared.workload.Event.{Event}
 use Rattle.hy_base.specs.Lists.{nth, change_nth}
+use Rattle.hy_base.specs.Entry.{FitsVersion}
 use Rattle.hy_base.specs.Log.{IsLawful}
 use Rattle.hy_base.specs.Script.{Workload, home_of}
 use Rattle.hy_rules.specs.Validation.{live}
@@ -107,7 +108,7 @@ pub record IsStepAnswered (script : Workload) (log : List EntryKind) (t : EndedP
 -- the device holds the entries' spellings, unless its log is broken
 pub record IsOnDevice (script : Workload) (log : List EntryKind) (pages : Pages) : Type 0 where
   pub shape : pages.shape ≡ script.shape
-  pub bodies : IfSome pages.bodies (λ bodies. bodies ≡ map spelling log)
+  pub bodies : IfSome pages.bodies (λ bodies. bodies ≡ map (spelling script.shape.version) log)
 
 pub record IsHolding (script : Workload) (h : Holding) : Type 0 where
   pub stored : IsOnDevice script h.log h.pages
@@ -156,9 +157,9 @@ IsBegunAt h client = (snap : ℕ) × (x : ClientState) × (run : Running) × Beg
 abbrev pub NextFits : Holding → ℕ → Type 0
 NextFits h client = (x : ClientState) → nth h.client_states client ≡ Some x → x.session.next + 1 < 2 ^ 32
 
--- what the client's program leaves is an entry
+-- what the client's program leaves is an entry, which the log can hold
 abbrev pub LeavesEntry : Holding → ℕ → Type 0
-LeavesEntry h client = (x : ClientState) (run : Running) → nth h.client_states client ≡ Some x → x.running ≡ Some run → (e : EntryKind) × (run.entry ≡ Some e)
+LeavesEntry h client = (x : ClientState) (run : Running) → nth h.client_states client ≡ Some x → x.running ≡ Some run → (e : EntryKind) × (run.entry ≡ Some e) × FitsVersion h.pages.shape.version e
 
 -- what is told of a begun program that ends so
 abbrev pub told_in_course : ℕ → ℕ → ClientState → Running → ProgramEnd → EndedProgram
@@ -176,7 +177,7 @@ Finishes old new client end = (snap : ℕ) (x : ClientState) (run : Running) →
 
 -- the pages with a body more, so many times, where a stop may strike in the first append
 abbrev pub pages_with : Option ArmedStop → ℕ → EntryKind → Pages → Pages
-pages_with stop count e pages = record pages { bodies = option_map (with_body stop count (spelling e)) pages.bodies }
+pages_with stop count e pages = record pages { bodies = option_map (with_body stop count (spelling pages.shape.version e)) pages.bodies }
 
 -- and its entry is appended
 abbrev pub appending_in : Holding → ℕ → ℕ → ℕ → ClientState → Running → EntryKind → Holding

@@ -1,6 +1,7 @@
 //! What a stop leaves, and the restart after it.
 ghost use Rattle.std.specs.Prelude.{◌≡◌, ◌⊎◌, ◌+◌, ◌-◌, ◌<◌, ◌≤◌, ◌++◌, ◌^◌, length, take, drop, vec_len, vec_capacity, Some, None, IfOk, OnOk, OnErr};
 ghost use Rattle.std.specs.List.{AllByRecursion};
+ghost use Rattle.hy_base.specs.Entry.{FitsVersion};
 ghost use Rattle.hy_base.specs.Log.{IsLawful};
 ghost use Rattle.hy_base.specs.Shape.{IsGoodShape, whole_groups};
 ghost use Rattle.hy_base.specs.Limits.{IsThreadCount};
@@ -113,13 +114,14 @@ pub(crate) fn strike<R: Threads + Sync, G: Gate + Sync>(
     requires room_left { HasPlaces (log_held core.old).pages 1 }
     requires stop { IsStop stop }
     requires lawful { IsLawful script.now.shape ((log_held core.old).log ++ kept_by stop entry.now) }
+    requires fits { FitsVersion (log_held core.old).pages.shape.version entry.now }
     requires threads { IsThreadCount threads }
     ensures ok { OnOk result (log_held core.new ≡ struck stop entry.now (log_held core.old)) }
     ensures boards { IfOk result (λ rollers. AreRestarted script.now ((log_held core.old).log ++ kept_by stop entry.now) rollers.items) }
     ensures places { (core.new.log ≡ core.old.log) × (core.new.told ≡ core.old.told) }
     ensures err { OnErr result ((log_held core.new ≡ log_held core.old) ⊎ (log_held core.new ≡ broken (log_held core.old))) }
 {
-    let body = encode(alloc, entry.get())?;
+    let body = encode(alloc, entry.get(), core.pages.shape().version)?;
     let rollers = restarted(rt, alloc, script, core, entry, stop, threads, gate)?;
     core.pages.stop(alloc, &body, stop)?;
     Ok(rollers)

@@ -37,6 +37,7 @@ pub fn generate(alloc: Global, seed: u64, size: u32) -> Result<Load, AllocError>
         group: 4,
         window: 4,
         cap: 8 * size,
+        version: 1,
     };
     let script = Script::new(shape, SERVERS, clients(alloc, seed, size)?);
     let readers = readers(alloc, seed, size)?;

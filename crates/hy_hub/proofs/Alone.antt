@@ -196,7 +196,7 @@ module _ (from : ℕ) (mine : Option ℕ) (old held new : Known Occurrence) (who
       subst (AreLedIn from None new) (sym (seen ∙ ap (λ l. l ++ x ∷ []) whole)) (own_led from new old.seen x kind (subst (λ (n : ℕ). Makes new n x) (ap length whole) ((marks k x).1 (inr (own, there)))) kept_here)
 
 -- what is refused adds an event, or nothing
-refusal_kind : (asked : Asked) (e : AppendRefusal) (before : List Occurrence) (x : Occurrence) → AppendDoes asked (Err e) before (x ∷ []) → e ≢ Device → IsOwnKind x
+refusal_kind : (asked : Asked) (e : AppendRefusal) (before : List Occurrence) (x : Occurrence) → AppendDoes asked.client asked.number asked.entry (Err e) before (x ∷ []) → e ≢ Device → IsOwnKind x
 refusal_kind asked OutOfMemory before x does other = absurd (cc (does))
 refusal_kind asked (NotBegun who phase) before x does other = absurd (cc (does.0))
 refusal_kind asked Full before x does other = let same : x ≡ Happened (Refuse asked.client) nothing_added = cc (does.0) in subst IsOwnKind (sym same) tt
@@ -209,7 +209,7 @@ module _ {D : Type 0} (tells : Bool) (leaves : D → (List ℕ → Type 0) → T
   stepped_alone (Answered (Ok at) own) from old held new added whole same few seen marks does led = none_alone from own old held new whole same marks led added seen does.0
   stepped_alone (Answered (Err e) own) from old held new added whole same few seen marks does led = by added few seen does.0 does.1
     where
-      by : (added : List Occurrence) → length added ≤ 1 → new.seen ≡ held.seen ++ added → AppendDoes asked (Err e) held.seen added → IsOwn own held.seen added → AreLed from None new
+      by : (added : List Occurrence) → length added ≤ 1 → new.seen ≡ held.seen ++ added → AppendDoes asked.client asked.number asked.entry (Err e) held.seen added → IsOwn own held.seen added → AreLed from None new
       by [] few seen is place = none_alone from own old held new whole same marks led [] seen refl
       by (x ∷ []) few seen is place =
           let one : nat_lt 0 1 ≡ true = lt-ltb 0 1 (omega arith) in

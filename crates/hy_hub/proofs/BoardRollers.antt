@@ -1,16 +1,16 @@
 -- The boards of a list that goes on.
-use Rattle.std.proofs.Common.{◌≡◌, ℕ, List, [], ◌∷◌, ◌++◌, take, Some, refl, ap, sym, ◌∙◌, subst}
+use Rattle.std.proofs.Common.{◌≡◌, ℕ, List, [], ◌∷◌, ◌++◌, take, refl, ap, sym, ◌∙◌, subst}
 use Rattle.std.specs.Prelude.{Option, replicate, unwrap_or}
 use Rattle.hy_base.specs.Lists.{nth}
 use Rattle.hy_base.proofs.NthLemmas.{All-nth, nth_map}
-use Rattle.hy_rules.specs.Moves.{State, board_of}
+use Rattle.hy_rules.specs.Moves.{board_of}
 use Rattle.hy_rolling.specs.Rolling.{Roll, rolled_upto, Stands}
 use Rattle.hy_hub.specs.Origin.{Origin}
 use Rattle.hy_hub.specs.declared.occurrence.Occurrence.{Occurrence}
 use Rattle.hy_hub.specs.declared.occurrence.Occurrence.TheVariants.{Opened, Happened, Halted, Lifted, Landed}
 use Rattle.hy_hub.specs.Trace.{state_after}
-use Rattle.hy_hub.specs.Boards.{boards_then, boards_from, boards_in, board_roller}
-use Rattle.hy_hub.specs.Hub.{IsBoard, IsHubHistory}
+use Rattle.hy_hub.specs.Boards.{boards_then, boards_from, boards_in}
+use Rattle.hy_hub.specs.Hub.{IsBoard}
 use Rattle.hy_hub.specs.Calls.{IsRollerOf}
 use Rattle.hy_hub.specs.HubLaws.{BoardsAreRollers}
 

@@ -1,22 +1,21 @@
 -- What a pass made, but for its lifts; and lifts that won't fail.
-use Rattle.std.proofs.Common.{◌≡◌, ℕ, zero, suc, ◌+◌, ◌<◌, ◌≤◌, Bool, true, false, List, [], ◌∷◌, ◌++◌, length, Some, None, refl, ap, sym, ◌∙◌, subst, arith, append_assoc, length-append}
+use Rattle.std.proofs.Common.{◌≡◌, ℕ, zero, suc, ◌+◌, ◌<◌, ◌≤◌, Bool, true, false, List, [], ◌∷◌, ◌++◌, length, Some, None, refl, ap, sym, ◌∙◌, subst, arith, append_assoc}
 use Rattle.std.specs.Prelude.{Option, not, filter, slice_get, count_by, if◌then◌else◌}
 use Rattle.std.specs.Option.{option_map_or}
 use Rattle.std.proofs.lemmas.Bool.{lt-ltb, le-ltb}
-use Rattle.std.proofs.lemmas.List.{append-nil}
 use Rattle.std.proofs.lemmas.List.Sums.{sum_by-append, sum_by-cons}
 use Rattle.std.proofs.lemmas.List.Elements.{filter-append}
 use mathlib.Core.List.{IsPrefix}
 use Rattle.hy_base.specs.Lists.{put}
 use Rattle.hy_base.proofs.NumberLemmas.{one_if}
 use Rattle.hy_hist.specs.Passes.{Known, made, masked, stands_before, with_mine}
-use Rattle.hy_hist.proofs.Made.{prefix_get, put_last, at_front}
+use Rattle.hy_hist.proofs.Made.{prefix_get}
 use Rattle.hy_hist.proofs.Lists.{prefix_trans}
 use Rattle.hy_hub.specs.declared.occurrence.Occurrence.{Occurrence}
 use Rattle.hy_hub.specs.declared.occurrence.Occurrence.TheVariants.{Opened, Happened, Halted, Lifted, Landed}
 use Rattle.hy_hub.specs.declared.occurrence.Batch.{Batch}
 use Rattle.hy_hub.specs.declared.occurrence.Away.{Away}
-use Rattle.hy_hub.specs.Trace.{is_lift, halt_of, flight_of, away_of, failed_from, failed_lift}
+use Rattle.hy_hub.specs.Trace.{is_lift, halt_of, flight_of, failed_from, failed_lift}
 use Rattle.hy_hub.specs.Order.{AreInOrder}
 use Rattle.hy_hub.specs.Calls.{done_by, placed_at, IsLeftOver}
 use Rattle.hy_hub.specs.Holds.{WontFail}

@@ -32,12 +32,12 @@ module _ {D : Type 0} {moment : D → ℕ} {left_since : D → ℕ → List ℕ 
   }
 
 -- the list as it is
-pub stood_whole : (s : Shape) (least : ℕ) (entries : List EntryKind) → least ≤ length entries → (image : List ℕ) → Holds s (map spelling entries) image → HoldsSome s least entries image
+pub stood_whole : (s : Shape) (least : ℕ) (entries : List EntryKind) → least ≤ length entries → (image : List ℕ) → Holds s (map (spelling s.version) entries) image → HoldsSome s least entries image
 stood_whole s least entries few image is =
     let all : take (length entries) entries ≡ entries = ap (take (length entries)) (sym (append-nil entries)) ∙ take-append_seam entries [] in
-    record { count = length entries; no_fewer = few; no_more = omega arith; holds = subst (λ (l : List EntryKind). Holds s (map spelling l) image) (sym all) is }
+    record { count = length entries; no_fewer = few; no_more = omega arith; holds = subst (λ (l : List EntryKind). Holds s (map (spelling s.version) l) image) (sym all) is }
 
-pub stood_now : (s : Shape) (least : ℕ) (entries : List EntryKind) → least ≤ length entries → (image : List ℕ) → Holds s (map spelling entries) image → HasStood s least entries [] image
+pub stood_now : (s : Shape) (least : ℕ) (entries : List EntryKind) → least ≤ length entries → (image : List ℕ) → Holds s (map (spelling s.version) entries) image → HasStood s least entries [] image
 stood_now s least entries few image is = inl (stood_whole s least entries few image is)
 
 -- the first so many are the first so many of more
@@ -45,12 +45,12 @@ some_more : (s : Shape) (least : ℕ) (entries batch : List EntryKind) (image : 
 some_more s least entries batch image is =
     let size = length-append entries batch in
     let within = is.no_more in
-    record { count = is.count; no_fewer = is.no_fewer; no_more = omega (arith, size, within); holds = subst (λ (l : List EntryKind). Holds s (map spelling l) image) (sym (take-append-le is.count entries batch is.no_more)) is.holds }
+    record { count = is.count; no_fewer = is.no_fewer; no_more = omega (arith, size, within); holds = subst (λ (l : List EntryKind). Holds s (map (spelling s.version) l) image) (sym (take-append-le is.count entries batch is.no_more)) is.holds }
 
 -- as what stood is part of a longer list, or a batch may stand behind it
 module _ (s : Shape) (least : ℕ) (entries batch : List EntryKind) (few : least ≤ length entries) (image : List ℕ) where
   some_of : HasStood s least entries [] image → HoldsSome s least entries image
-  some_of = ⊎_elim (λ (h : HoldsSome s least entries image). h) (λ (h : Holds s (map spelling (entries ++ [])) image). stood_whole s least entries few image (subst (λ (l : List EntryKind). Holds s (map spelling l) image) (append-nil entries) h))
+  some_of = ⊎_elim (λ (h : HoldsSome s least entries image). h) (λ (h : Holds s (map (spelling s.version) (entries ++ [])) image). stood_whole s least entries few image (subst (λ (l : List EntryKind). Holds s (map (spelling s.version) l) image) (append-nil entries) h))
 
   pub stood_longer : HasStood s least entries [] image → HasStood s least (entries ++ batch) [] image
   stood_longer is = inl (some_more s least entries batch image (some_of is))
@@ -58,12 +58,12 @@ module _ (s : Shape) (least : ℕ) (entries batch : List EntryKind) (few : least
   pub stood_torn : HasStood s least entries [] image → HasStood s least entries batch image
   stood_torn is = inl (some_of is)
 
-  pub upto_longer : HoldsUpTo s (map spelling entries) (map spelling batch) image → HasStood s least (entries ++ batch) [] image
+  pub upto_longer : HoldsUpTo s (map (spelling s.version) entries) (map (spelling s.version) batch) image → HasStood s least (entries ++ batch) [] image
   upto_longer = ⊎_elim
-      (λ (h : Holds s (map spelling entries) image). inl (some_more s least entries batch image (stood_whole s least entries few image h)))
-      (λ (h : Holds s (map spelling entries ++ map spelling batch) image). stood_now s least (entries ++ batch) (let size = length-append entries batch in omega (arith, size, few)) image (subst (λ (l : List (List ℕ)). Holds s l image) (sym (map-append spelling entries batch)) h))
+      (λ (h : Holds s (map (spelling s.version) entries) image). inl (some_more s least entries batch image (stood_whole s least entries few image h)))
+      (λ (h : Holds s (map (spelling s.version) entries ++ map (spelling s.version) batch) image). stood_now s least (entries ++ batch) (let size = length-append entries batch in omega (arith, size, few)) image (subst (λ (l : List (List ℕ)). Holds s l image) (sym (map-append (spelling s.version) entries batch)) h))
 
-  pub upto_torn : HoldsUpTo s (map spelling entries) (map spelling batch) image → HasStood s least entries batch image
+  pub upto_torn : HoldsUpTo s (map (spelling s.version) entries) (map (spelling s.version) batch) image → HasStood s least entries batch image
   upto_torn = ⊎_elim
-      (λ (h : Holds s (map spelling entries) image). inl (stood_whole s least entries few image h))
-      (λ (h : Holds s (map spelling entries ++ map spelling batch) image). inr (subst (λ (l : List (List ℕ)). Holds s l image) (sym (map-append spelling entries batch)) h))
+      (λ (h : Holds s (map (spelling s.version) entries) image). inl (stood_whole s least entries few image h))
+      (λ (h : Holds s (map (spelling s.version) entries ++ map (spelling s.version) batch) image). inr (subst (λ (l : List (List ℕ)). Holds s l image) (sym (map-append (spelling s.version) entries batch)) h))

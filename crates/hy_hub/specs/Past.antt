@@ -10,8 +10,8 @@ pub record HoldsSome (shape : Shape) (least : ℕ) (entries : List EntryKind) (i
   pub count : ℕ
   pub no_fewer : least ≤ count
   pub no_more : count ≤ length entries
-  pub holds : Holds shape (map spelling (take count entries)) image
+  pub holds : Holds shape (map (spelling shape.version) (take count entries)) image
 
 -- these, or all of them and a whole batch
 abbrev pub HasStood : Shape → ℕ → List EntryKind → List EntryKind → List ℕ → Type 0
-HasStood shape least entries batch image = HoldsSome shape least entries image ⊎ Holds shape (map spelling (entries ++ batch)) image
+HasStood shape least entries batch image = HoldsSome shape least entries image ⊎ Holds shape (map (spelling shape.version) (entries ++ batch)) image

@@ -13,10 +13,14 @@ use Rattle.hy_hub.specs.Entries.{Asked}
 use Rattle.hy_hub.specs.Appends.{RunsOn, IsRunningFor}
 use Rattle.hy_hub.specs.Trace.{state_after, events_told}
 
--- As a list goes on, the entry suits wherever its client runs this program on its snapshot, and so does its refusal by a full log.
-abbrev pub MayAppend : (State → Event → List EntryKind → Type 0) → List Occurrence → Asked → Type 0
-MayAppend suits list asked =
-    (later : List Occurrence) → IsPrefix list later → IsRunningFor asked later → suits (state_after later) (Append asked.client) (asked.entry ∷ []) × suits (state_after later) (Refuse asked.client) []
+-- As a list goes on, the entry suits wherever its client runs this program on its snapshot and at its isolation, and so does its refusal by a full log.
+abbrev pub MayAppend : (State → Event → List EntryKind → Type 0) → List Occurrence → ℕ → ℕ → EntryKind → Type 0
+MayAppend suits list client number entry =
+    (later : List Occurrence) → IsPrefix list later → IsRunningFor client number entry later → suits (state_after later) (Append client) (entry ∷ []) × suits (state_after later) (Refuse client) []
+
+-- so does what a client asked
+abbrev pub MayWait : (State → Event → List EntryKind → Type 0) → List Occurrence → Asked → Type 0
+MayWait suits list asked = MayAppend suits list asked.client asked.number asked.entry
 
 -- So does the end of a program that wrote nothing.
 abbrev pub MayEnd : (State → Event → List EntryKind → Type 0) → List Occurrence → ℕ → ℕ → ℕ → Type 0
@@ -55,4 +59,4 @@ AllSuit suits list = (before : List Occurrence) (occurrence : Occurrence) (after
 -- The list suits, and each entry that waits may be appended.
 pub record IsSuited {D B : Type 0} (suits : State → Event → List EntryKind → Type 0) (c : Inside D B) : Type 0 where
   pub events : AllSuit suits c.occurrences.items
-  pub waits : AllByRecursion (MayAppend suits c.occurrences.items) c.waiting.items
+  pub waits : AllByRecursion (MayWait suits c.occurrences.items) c.waiting.items

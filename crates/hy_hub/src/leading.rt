@@ -166,7 +166,7 @@ impl<D: Disk, B: Since> Hub<D, B> {
         requires pass { IsCarrier self.now pass.old }
         requires client { is_declared_client request.now.client pass.old.seen }
         requires flown { IsFlownOf D.tells D.content (LeavesSince D.moment D.left_since B.moment B.left) B.least D.faults_of pass.old.seen log (Err failed) }
-        ensures refused { OwnTurn pass.old pass.new (AppendDoes request.now (Err result)) }
+        ensures refused { OwnTurn pass.old pass.new (AppendDoes request.now.client request.now.number request.now.entry (Err result)) }
         ensures cause { FailsAfter pass.old.seen pass.new.seen × KeepsMade pass.old pass.new × ((at : ℕ) → result ≢ AppendRefusal.Stopped at) }
         ensures alone { LeadsStill self.now.parts None None pass.old pass.new }
         ensures kept { IsIdle self.now pass.new × (pass.new.parts ≡ pass.old.parts) }

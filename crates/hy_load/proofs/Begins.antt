@@ -12,7 +12,7 @@ use Rattle.hy_rules.proofs.Backward.{next_state}
 use Rattle.hy_gen.specs.Load.{program_count, script_of}
 use Rattle.hy_gen.specs.Rounds.{begin_events, home, is_beginning, is_first, number_in, period}
 use Rattle.hy_load.proofs.Spots.{change_middle, nth_middle, run_both, run_one}
-use Rattle.hy_load.proofs.Steady.{AreAll, IsAmid, IsBeforeRound, IsBusy, IsIdleBehind, board_before, board_is, boards_before, calm_state, load_home, passes, program_total, turn_in}
+use Rattle.hy_load.proofs.Steady.{AreAll, IsAmid, IsBeforeRound, IsBusy, IsIdleBehind, board_before, board_is, boards_before, calm_state, load_home, passes, home_total, turn_in}
 use Rattle.hy_load.proofs.Turns.{home_within}
 
 -- ---- one client
@@ -56,7 +56,7 @@ one_begins seed readers t client log done x todo least most at before = go (is_f
     enters : is_beginning size t client ≡ true → IsIdleBehind (min turn count) x → turn < count → ClientBegins seed readers t client log done x todo
     enters begins idle few =
         let board : ℕ = board_of s (home_server (setting_of (script_of seed size)) client) in
-        let fits : nat_le x.next (load_home seed size client).programs ≡ true = le-leb _ _ (let n = idle.next in omega (arith, n, few, program_total seed size client)) in
+        let fits : nat_le x.next (length (load_home seed size client).programs) ≡ true = le-leb _ _ (let n = idle.next in omega (arith, n, few, home_total seed size client)) in
         let low : nat_le x.last (board_of s (home client)) ≡ true = le-leb _ _ (let l = before.last in omega (arith, l, here)) in
         let test : may_begin s (load_home seed size client) x ≡ true = rw (idle.phase, fits, low) refl in
         let may : may_happen (script_of seed size) s (Begin client) ≡ true =

@@ -3,6 +3,7 @@ use Rattle.std.proofs.Common.{◌≡◌, ◌∙◌, ℕ, zero, suc, ◌+◌, ◌
 use Rattle.std.specs.Option.{option_map_or}
 use Rattle.std.specs.Prelude.{◌⊎◌, option_and_then, unwrap_or, min}
 use Rattle.std.specs.List.{range_with_len}
+use Rattle.std.proofs.lemmas.List.{length-map}
 use Rattle.std.proofs.lemmas.List.FromFn.{length-map-range_with_len}
 use Rattle.hy_base.specs.declared.record.EntryKind.{EntryKind}
 use Rattle.hy_base.specs.declared.workload.Home.{Home}
@@ -32,10 +33,13 @@ each_of_eight P a b c d e f g h (suc (suc (suc (suc (suc (suc (suc (suc zero))))
 each_of_eight P a b c d e f g h (suc (suc (suc (suc (suc (suc (suc (suc (suc n))))))))) least most = absurd (omega (arith, most))
 
 abbrev pub load_home : ℕ → ℕ → ℕ → Home
-load_home seed size client = record { server = home client; programs = length (programs_of seed size client) }
+load_home seed size client = record { server = home client; programs = map (λ p. p.isolation) (programs_of seed size client) }
 
-pub program_total : (seed size client : ℕ) → length (programs_of seed size client) ≡ program_count size client
+program_total : (seed size client : ℕ) → length (programs_of seed size client) ≡ program_count size client
 program_total seed size client = length-map-range_with_len (λ turn. program_numbered seed (8 * turn + (client - 1))) 0 (program_count size client)
+
+pub home_total : (seed size client : ℕ) → length (load_home seed size client).programs ≡ program_count size client
+home_total seed size client = length-map (programs_of seed size client) (λ p. p.isolation) ∙ program_total seed size client
 
 pub home_is : (seed size client : ℕ) → 1 ≤ client → client ≤ 8 → nth (setting_of (script_of seed size)).homes client ≡ Some (load_home seed size client)
 home_is seed size client least most = each_of_eight (λ n. nth (setting_of (script_of seed size)).homes n ≡ Some (load_home seed size n)) refl refl refl refl refl refl refl refl client least most

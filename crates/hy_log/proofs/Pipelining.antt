@@ -50,7 +50,7 @@ module _ (s : Shape) (bodies : List (List ℕ)) (page : ℕ) (seen : List ℕ) (
       (take_same (256 * page + 1) image seen (omega (arith, order, ahead.within)) (omega (arith, within)) (λ i low. ahead.same i (omega (arith, low, order)) (λ told. absurd cc)))
 
   -- a batch is laid down
-  module _ (batch : List (List ℕ)) (some : 1 ≤ length batch) (few : length batch ≤ 8) (placed : length bodies + length batch ≤ s.cap) (sound : AllByRecursion IsBody batch) (laid : AreLaid page batch seen) where
+  module _ (batch : List (List ℕ)) (some : 1 ≤ length batch) (few : length batch ≤ 8) (placed : length bodies + length batch ≤ s.cap) (sound : AllByRecursion (IsBody s.version) batch) (laid : AreLaid page batch seen) where
     laid_part : take (256 * pages_in batch) (drop (256 * page + 1) seen) ≡ staged batch
     laid_part = ap (take (256 * pages_in batch)) laid.stands ∙ take_at (staged batch) laid.behind (256 * pages_in batch) (staged_size batch)
 
@@ -136,6 +136,7 @@ lowered log = record {
   fits = log.fits;
   before = log.before;
   waits = log.waits;
+  sound = log.sound;
   front = log.front;
   at_rest = log.at_rest;
   dropped = log.dropped;
@@ -169,7 +170,7 @@ module _ {D : Type 0} {tells : Bool} {content : D → Content} {inside : Inside 
       let mid : Content = settled (gate_opened gate piece seen) in
       let put : IsPut {D = Content} tells (λ c. c) (record { disk = content inside.disk; shape = inside.shape; places = inside.places; frontier = inside.frontier; batch = inside.batch; stopped = inside.stopped }) piece = record { log = low; some = some; is = refl } in
       let is : gate_opened gate piece seen ≡ overwritten seen gate (71 ∷ []) =
-      ap (λ (p : List ℕ). gate_opened gate p seen) log.waits.spelled ∙ sym (opened_stored inside.shape old inside.frontier seen (log.front told) rest.within rest.closed batch some (omega (arith, count, log.waits.few)) (placed some) log.waits.sound laid) in
+      ap (λ (p : List ℕ). gate_opened gate p seen) log.waits.spelled ∙ sym (opened_stored inside.shape old inside.frontier seen (log.front told) rest.within rest.closed batch some (omega (arith, count, log.waits.few)) (placed some) log.sound laid) in
       let closed = grown_closed put mid told refl in
       let are = grown_bodies put mid told refl in
       subst (IsGrown inside.shape (inside.places.items ++ inside.batch.places.items) (old ++ batch) (inside.frontier + inside.batch.pages)) is
@@ -219,6 +220,6 @@ module _ {D : Type 0} {tells : Bool} {content : D → Content} {inside : Inside 
 
   pub left_by : (opens : Bool) → IsTrue opens ↔ (1 ≤ length inside.batch.places.items) → (image : List ℕ) → IsAhead opens gate (gate + 256 * inside.batch.pages) seen image → HoldsUpTo inside.shape old batch image
   left_by true is image ahead =
-      opened inside.shape old inside.frontier seen (log.front told) rest.within rest.closed batch (omega (arith, count, is.0 refl)) (omega (arith, count, log.waits.few)) (omega (arith, log.within, count, length-bodies_at seen inside.places.items)) log.waits.sound laid
+      opened inside.shape old inside.frontier seen (log.front told) rest.within rest.closed batch (omega (arith, count, is.0 refl)) (omega (arith, count, log.waits.few)) (omega (arith, log.within, count, length-bodies_at seen inside.places.items)) log.sound laid
       (gate + 256 * inside.batch.pages) image (omega (arith, log.waits.pages)) ahead
   left_by false is image ahead = inl (unopened inside.shape old inside.frontier seen (log.front told) rest.within rest.closed (gate + 256 * inside.batch.pages) image (omega arith) next_within ahead)

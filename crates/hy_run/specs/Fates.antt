@@ -32,7 +32,7 @@ HasFound seen shape found = (recovered seen ≡ Ok (record { shape = Some shape;
 
 -- a device with these bytes has a log of this shape, whose bodies are the spellings of these entries, and it is recovered as these
 pub record HoldsEntries (shape : Shape) (entries : List EntryKind) (image : List ℕ) : Type 0 where
-  pub spelled : Holds shape (map spelling entries) image
+  pub spelled : Holds shape (map (spelling shape.version) entries) image
   pub recovers : recovered image ≡ Ok (record { shape = Some shape; entries = entries })
 
 -- The clients of a script ran on a log: the entries that were found, the events that came of it and the state to which they lead, and the batch at which the device failed, if it did.

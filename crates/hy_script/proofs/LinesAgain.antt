@@ -1,22 +1,25 @@
 -- The words of a spelled line are read as what they spell.
-use Rattle.std.proofs.Common.{arith, lt-ltb, ◌≡◌, ℕ, ◌<◌, ◌≤◌, ◌^◌, ◌%◌, ◌==◌, Bool, true, false, ◌&&◌, [], ◌∷◌, length, refl, ap, ◌∙◌, if◌then◌else◌, nat_lt, nat_le}
+use Rattle.std.proofs.Common.{arith, sym, eqb-true, lt-ltb, ◌≡◌, ℕ, ◌<◌, ◌≤◌, ◌^◌, ◌%◌, ◌==◌, Bool, true, false, ◌&&◌, [], ◌∷◌, length, refl, ap, ◌∙◌, if◌then◌else◌, nat_lt, nat_le}
 use Rattle.std.specs.Prelude.{Result, Ok, Err, ok_or, codes, decimal}
 use Rattle.std.proofs.lemmas.Bool.{and_from, le-leb, ne_eqb, eq-eqb}
 use Rattle.std.proofs.lemmas.Fmt.{decimal_nonempty}
 use Rattle.hy_base.specs.declared.layout.Shape.{Shape}
+use Rattle.hy_base.specs.declared.record.Isolation.{Isolation}
+use Rattle.hy_base.specs.declared.record.Isolation.TheVariants.{Serializable, Snapshot}
 use Rattle.hy_base.specs.declared.workload.Command.{Command}
 use Rattle.hy_base.specs.declared.workload.Command.TheVariants.{Get, Put, Del, Add, Scan}
+use Rattle.hy_base.specs.Entry.{is_told}
 use Rattle.hy_base.specs.Script.{Workload, IsCommand, client_count}
-use Rattle.hy_base.specs.Shape.{IsWithin, IsGoodShape, is_within}
+use Rattle.hy_base.specs.Shape.{newest_version, IsWithin, IsGoodShape, is_within}
 use Rattle.hy_base.specs.Spelling.{Text}
 use Rattle.hy_base.specs.Value.{is_value}
 use Rattle.hy_base.proofs.ShapeLemmas.{IsWithin-test}
-use Rattle.hy_script.specs.Fields.{and_then, number_field, one_number, two_numbers, three_numbers, number_and_text}
+use Rattle.hy_script.specs.Fields.{and_then, number_field, one_number, two_numbers, three_numbers, four_numbers, number_and_text}
 use Rattle.hy_script.specs.Forms.{is_blank}
-use Rattle.hy_script.specs.Grammar.{is_shape, last_program_count}
+use Rattle.hy_script.specs.Grammar.{is_shape, is_versioned, shape_where, last_program_count}
 use Rattle.hy_script.specs.ScriptLaws.{FitsFields}
-use Rattle.hy_script.specs.ScriptFields.{listing_line, number_within, one_more, program_line, servers_line, shape_line}
-use Rattle.hy_script.specs.ScriptSpelling.{command_words}
+use Rattle.hy_script.specs.ScriptFields.{listing_line, number_within, one_more, program_line, servers_line, shape_line, shape_numbers}
+use Rattle.hy_script.specs.ScriptSpelling.{command_words, isolation_fields, spelled_shape}
 use Rattle.hy_script.specs.declared.script.ListingLine.{ListingLine}
 use Rattle.hy_script.specs.declared.script.ListingLine.TheVariants.{Client, Begin, Schedule}
 use Rattle.hy_script.specs.declared.script.ProgramLine.TheVariants.{Next}
@@ -61,11 +64,23 @@ shape_is shape good =
     (and_from (is_within 1 64 shape.window) _ (IsWithin-test 1 64 shape.window good.window)
     (and_from (is_within shape.group 2147483648 shape.cap) (shape.cap % shape.group == 0) (IsWithin-test shape.group 2147483648 shape.cap good.cap) (eq-eqb (shape.cap % shape.group) 0 good.whole_groups))))
 
-pub shape_again : (shape : Shape) → IsGoodShape shape → shape_line (codes "shape" ∷ decimal shape.group ∷ decimal shape.window ∷ decimal shape.cap ∷ []) ≡ Ok shape
-shape_again shape good =
-    ap (λ read. and_then read (λ p. if is_shape p.0 p.1 p.2 then Ok (record { group = p.0; window = p.1; cap = p.2 }) else Err Range))
+pub four_again : (k l m n : ℕ) → k < 2 ^ 64 → l < 2 ^ 64 → m < 2 ^ 64 → n < 2 ^ 64 → four_numbers (decimal k ∷ decimal l ∷ decimal m ∷ decimal n ∷ []) ≡ Ok (k, l, m, n)
+four_again k l m n a b c d = rw (some k a, some l b, some m c, some n d, field_again k a, field_again l b, field_again m c, field_again n d) refl
+
+numbers_by : (t : Bool) (shape : Shape) → (shape.version == 1) ≡ t → IsGoodShape shape
+    → shape_numbers (decimal shape.group ∷ decimal shape.window ∷ decimal shape.cap ∷ (if t then [] else decimal shape.version ∷ [])) ≡ Ok (shape.group, shape.window, shape.cap, shape.version)
+numbers_by true shape first good =
+    ap {B = Result (ℕ × ℕ × ℕ × ℕ) Why} (λ read. and_then {B = ℕ × ℕ × ℕ × ℕ} read (λ p. Ok (p.0, p.1, p.2, 1)))
     (three_again shape.group shape.window shape.cap (omega (arith, good.group.at_most)) (omega (arith, good.window.at_most)) (omega (arith, good.cap.at_most)))
-    ∙ if_so (is_shape shape.group shape.window shape.cap) (Ok shape) (Err Range) (shape_is shape good)
+    ∙ ap {B = Result (ℕ × ℕ × ℕ × ℕ) Why} (λ v. Ok (shape.group, shape.window, shape.cap, v)) (sym (eqb-true shape.version 1 first))
+numbers_by false shape later good =
+    four_again shape.group shape.window shape.cap shape.version (omega (arith, good.group.at_most)) (omega (arith, good.window.at_most)) (omega (arith, good.cap.at_most)) (omega (arith, good.version.at_most))
+
+pub shape_again : (shape : Shape) → IsGoodShape shape → shape_line (spelled_shape shape) ≡ Ok shape
+shape_again shape good =
+    ap (λ read. and_then read (λ p. shape_where p.0 p.1 p.2 p.3)) (numbers_by (shape.version == 1) shape refl good)
+    ∙ if_so (is_versioned shape.group shape.window shape.cap shape.version) (Ok shape) (Err Range)
+    (and_from (is_shape shape.group shape.window shape.cap) (is_within 1 newest_version shape.version) (shape_is shape good) (IsWithin-test 1 newest_version shape.version good.version))
 
 within_again : (low high n : ℕ) → high < 2 ^ 64 → IsWithin low high n → number_within low high (decimal n ∷ []) ≡ Ok n
 within_again low high n small w =
@@ -81,8 +96,10 @@ client_again sim script server few w room =
     ap (λ read. and_then read (λ s. if nat_lt (client_count script.clients s) 16 then Ok (Client s) else Err Count)) (within_again 1 script.servers server (omega (arith, few)) w)
     ∙ if_so (nat_lt (client_count script.clients server) 16) (Ok (Client server)) (Err Count) (lt-ltb (client_count script.clients server) 16 room)
 
-pub begin_again : (sim : Bool) (script : Workload) → 0 < length script.clients → last_program_count script.clients < 10000 → listing_line sim script (codes "begin" ∷ []) ≡ Ok Begin
-begin_again sim script is room = rw (lt-ltb 0 (length script.clients) is, lt-ltb (last_program_count script.clients) 10000 room) refl
+pub begin_again : (sim : Bool) (script : Workload) (isolation : Isolation) → 0 < length script.clients → last_program_count script.clients < 10000 → is_told script.shape.version isolation ≡ true
+    → listing_line sim script (codes "begin" ∷ isolation_fields isolation) ≡ Ok (Begin isolation)
+begin_again sim script Serializable is room told = rw (lt-ltb 0 (length script.clients) is, lt-ltb (last_program_count script.clients) 10000 room) refl
+begin_again sim script Snapshot is room told = rw (lt-ltb 0 (length script.clients) is, lt-ltb (last_program_count script.clients) 10000 room, told) refl
 
 past_begin : (t : Bool) (x : Result ListingLine Why) → (if t && false then x else Ok Schedule) ≡ Ok Schedule
 past_begin true x = refl

@@ -1,52 +1,85 @@
 -- From what a line was read as, to its words.
-use Rattle.std.proofs.Common.{eqb-true, ltb-true, ◌≡◌, ℕ, ◌<◌, ◌%◌, ◌==◌, Bool, true, ◌&&◌, List, [], ◌∷◌, length, sym, ap, subst, ◌∙◌, if◌then◌else◌, nat_lt, nat_le}
+use Rattle.std.proofs.Common.{arith, zero, suc, refl, eqb-true, ltb-true, ◌≡◌, ℕ, ◌<◌, ◌%◌, ◌==◌, Bool, true, ◌&&◌, List, [], ◌∷◌, length, sym, ap, subst, ◌∙◌, if◌then◌else◌, nat_lt, nat_le}
+use Rattle.std.specs.Fmt.{digits}
 use Rattle.std.specs.Prelude.{Ok, Err, bytes_eq, codes, decimal}
 use Rattle.std.proofs.lemmas.Bool.{and_parts, leb-true}
+use Rattle.std.proofs.lemmas.Slice.Eq.{bytes_eq-Decides}
 use Rattle.hy_base.specs.declared.layout.Shape.{Shape}
+use Rattle.hy_base.specs.declared.record.Isolation.{Isolation}
+use Rattle.hy_base.specs.declared.record.Isolation.TheVariants.{Serializable, Snapshot}
 use Rattle.hy_base.specs.declared.workload.Command.{Command}
 use Rattle.hy_base.specs.declared.workload.Command.TheVariants.{Get, Put, Del, Add, Scan}
+use Rattle.hy_base.specs.Entry.{is_told}
 use Rattle.hy_base.specs.Script.{Workload, IsCommand, client_count}
-use Rattle.hy_base.specs.Shape.{IsWithin, IsGoodShape, is_within}
+use Rattle.hy_base.specs.Shape.{newest_version, IsWithin, IsGoodShape, is_within}
 use Rattle.hy_base.specs.Spelling.{Text}
 use Rattle.hy_base.specs.Value.{is_value}
 use Rattle.hy_base.specs.Limits.{IsServerNumber}
 use Rattle.hy_base.proofs.ShapeLemmas.{is_within-true}
 use Rattle.hy_script.specs.Fields.{and_then, one_number, two_numbers, three_numbers, number_and_text, no_fields}
-use Rattle.hy_script.specs.Grammar.{is_shape, last_program_count}
-use Rattle.hy_script.specs.ScriptLaws.{FitsFields}
-use Rattle.hy_script.specs.ScriptFields.{client_fields, begin_fields, listing_line, number_within, one_more, program_line, put_fields, scan_fields, servers_line, shape_fields, shape_line}
-use Rattle.hy_script.specs.ScriptSpelling.{command_words}
+use Rattle.hy_script.specs.Grammar.{is_shape, is_versioned, shape_where, last_program_count}
+use Rattle.hy_script.specs.ScriptLaws.{FitsFields, plain}
+use Rattle.hy_script.specs.ScriptFields.{client_fields, begin_fields, listing_line, number_within, one_more, program_line, put_fields, scan_fields, servers_line, shape_fields, shape_line, shape_numbers, isolation_field}
+use Rattle.hy_script.specs.ScriptSpelling.{command_words, isolation_fields, spelled_shape, version_fields}
 use Rattle.hy_script.specs.declared.script.ListingLine.{ListingLine}
 use Rattle.hy_script.specs.declared.script.ListingLine.TheVariants.{Client, Begin, Schedule}
 use Rattle.hy_script.specs.declared.script.ProgramLine.{ProgramLine}
 use Rattle.hy_script.specs.declared.script.ProgramLine.TheVariants.{Next, End}
-use Rattle.hy_script.specs.declared.why.Why.TheVariants.{Word, Value, Range, Order, Count}
-use Rattle.hy_script.proofs.FieldsRead.{and_then_was, branch, if_was, none_was, one_was, text_was, three_was, two_was, words_are}
+use Rattle.hy_script.specs.declared.why.Why.TheVariants.{Word, Form, Value, Range, Order, Count, Version}
+use Rattle.hy_script.proofs.FieldsRead.{and_then_was, branch, if_was, none_was, one_was, text_was, three_was, four_was, two_was, words_are}
 
 -- the shape and the servers
 
 pub record IsShapeLine (words : List Text) (shape : Shape) : Type 0 where
-  pub are : words ≡ codes "shape" ∷ decimal shape.group ∷ decimal shape.window ∷ decimal shape.cap ∷ []
+  pub are : plain words ≡ spelled_shape shape
   pub good : IsGoodShape shape
 
-shape_tests : (p : ℕ × ℕ × ℕ) → is_shape p.0 p.1 p.2 ≡ true → IsGoodShape (record { group = p.0; window = p.1; cap = p.2 })
+abbrev shape_from : ℕ × ℕ × ℕ × ℕ → Shape
+shape_from p = record { group = p.0; window = p.1; cap = p.2; version = p.3 }
+
+shape_tests : (p : ℕ × ℕ × ℕ × ℕ) → is_versioned p.0 p.1 p.2 p.3 ≡ true → IsGoodShape (shape_from p)
 shape_tests p e =
-    let c = and_parts (is_within 1 8 p.0) _ e in
+    let v = and_parts (is_shape p.0 p.1 p.2) (is_within 1 newest_version p.3) e in
+    let c = and_parts (is_within 1 8 p.0) _ v.0 in
     let d = and_parts (is_within 1 64 p.1) _ c.1 in
     let f = and_parts (is_within p.0 2147483648 p.2) (p.2 % p.0 == 0) d.1 in
-    record { group = is_within-true 1 8 p.0 c.0; window = is_within-true 1 64 p.1 d.0; cap = is_within-true p.0 2147483648 p.2 f.0; whole_groups = eqb-true (p.2 % p.0) 0 f.1 }
+    record { group = is_within-true 1 8 p.0 c.0; window = is_within-true 1 64 p.1 d.0; cap = is_within-true p.0 2147483648 p.2 f.0; whole_groups = eqb-true (p.2 % p.0) 0 f.1; version = is_within-true 1 newest_version p.3 v.1 }
+
+-- numbers as a shape's fields tell them: version 1 by no word
+abbrev AreShapeNumbers : List Text → ℕ × ℕ × ℕ × ℕ → Type 0
+AreShapeNumbers fields p = IsWithin 1 newest_version p.3 → plain (codes "shape" ∷ fields) ≡ spelled_shape (shape_from p)
+
+plain_version : (group window cap : Text) (version : ℕ) → IsWithin 1 newest_version version
+    → plain (codes "shape" ∷ group ∷ window ∷ cap ∷ decimal version ∷ []) ≡ codes "shape" ∷ group ∷ window ∷ cap ∷ version_fields version
+unfolding digits
+plain_version group window cap zero within = absurd (omega (arith, within.at_least))
+plain_version group window cap (suc zero) within = refl
+plain_version group window cap (suc (suc zero)) within = refl
+plain_version group window cap (suc (suc (suc n))) within = absurd (omega (arith, within.at_most))
+
+numbers_were : (fields : List Text) (p : ℕ × ℕ × ℕ × ℕ) → shape_numbers fields ≡ Ok p → AreShapeNumbers fields p
+numbers_were [] p e = cc
+numbers_were (a ∷ []) p e = cc
+numbers_were (a ∷ b ∷ []) p e = cc
+numbers_were (a ∷ b ∷ c ∷ []) p e = λ within.
+    let fields = a ∷ b ∷ c ∷ [] in
+    let step = and_then_was {B = ℕ × ℕ × ℕ × ℕ} (three_numbers fields) (λ q. Ok (q.0, q.1, q.2, 1)) p e in
+    let four : ℕ × ℕ × ℕ × ℕ = (step.0.0, step.0.1, step.0.2, 1) in
+    let same : four ≡ p = cc (step.2) in
+    ap (λ l. plain (codes "shape" ∷ l)) (three_was fields step.0 step.1).words ∙ ap (λ q. spelled_shape (shape_from q)) same
+numbers_were (a ∷ b ∷ c ∷ d ∷ rest) p e = λ within.
+    ap (λ l. plain (codes "shape" ∷ l)) (four_was (a ∷ b ∷ c ∷ d ∷ rest) p e).words ∙ plain_version (decimal p.0) (decimal p.1) (decimal p.2) p.3 within
 
 pub shape_was : (words : List Text) (shape : Shape) → shape_line words ≡ Ok shape → IsShapeLine words shape
 shape_was [] shape e = cc
 shape_was (word ∷ fields) shape e =
     let named = if_was (bytes_eq word (codes "shape")) (shape_fields fields) Word shape e in
-    let read = and_then_was (three_numbers fields) (λ p. if is_shape p.0 p.1 p.2 then Ok (record { group = p.0; window = p.1; cap = p.2 }) else Err Range) shape named.1 in
+    let read = and_then_was (shape_numbers fields) (λ p. shape_where p.0 p.1 p.2 p.3) shape named.1 in
     let p = read.0 in
-    let numbers = three_was fields p read.1 in
-    let tested = if_was (is_shape p.0 p.1 p.2) (Ok (record { group = p.0; window = p.1; cap = p.2 })) Range shape read.2 in
+    let tested = if_was (is_versioned p.0 p.1 p.2 p.3) (Ok (shape_from p)) Range shape read.2 in
     let good = shape_tests p tested.0 in
-    let same : record { group = p.0; window = p.1; cap = p.2 } ≡ shape = cc (tested.1) in
-    subst (IsShapeLine (word ∷ fields)) same (record { are = words_are word (codes "shape") fields _ named.0 numbers.words; good = good })
+    let same : shape_from p ≡ shape = cc (tested.1) in
+    subst (IsShapeLine (word ∷ fields)) same (record { are = ap plain (words_are word (codes "shape") fields fields named.0 refl) ∙ numbers_were fields p read.1 good.version; good = good })
 
 pub number_within_was : (low high : ℕ) (fields : List Text) (n : ℕ) → number_within low high fields ≡ Ok n → (fields ≡ decimal n ∷ []) × IsWithin low high n
 number_within_was low high fields n e =
@@ -66,7 +99,7 @@ servers_was (word ∷ fields) n e =
 
 abbrev pub IsListingLine : Workload → List Text → ListingLine → Type 0
 IsListingLine script words (Client server) = (words ≡ codes "client" ∷ decimal server ∷ []) × IsWithin 1 script.servers server × (client_count script.clients server < 16)
-IsListingLine script words Begin = (words ≡ codes "begin" ∷ []) × (0 < length script.clients) × (last_program_count script.clients < 10000)
+IsListingLine script words (Begin isolation) = (words ≡ codes "begin" ∷ isolation_fields isolation) × (0 < length script.clients) × (last_program_count script.clients < 10000) × (is_told script.shape.version isolation ≡ true)
 IsListingLine script words Schedule = words ≡ codes "schedule" ∷ []
 
 client_was : (script : Workload) (word : Text) (fields : List Text) (read : ListingLine) → bytes_eq word (codes "client") ≡ true → client_fields script fields ≡ Ok read → IsListingLine script (word ∷ fields) read
@@ -77,13 +110,25 @@ client_was script word fields read named e =
     let was = number_within_was 1 script.servers fields step.0 step.1 in
     subst (IsListingLine script (word ∷ fields)) same (words_are word (codes "client") fields _ named was.0, was.1, ltb-true (client_count script.clients step.0) 16 tested.0)
 
+isolation_was : (fields : List Text) (isolation : Isolation) → isolation_field fields ≡ Ok isolation → fields ≡ isolation_fields isolation
+isolation_was [] Serializable e = refl
+isolation_was [] Snapshot e = cc
+isolation_was (a ∷ []) isolation e =
+    let was = if_was (bytes_eq a (codes "snapshot")) (Ok Snapshot) Form isolation e in
+    let same : Snapshot ≡ isolation = cc (was.1) in
+    ap (λ w. w ∷ []) ((bytes_eq-Decides a (codes "snapshot")).0 was.0) ∙ ap isolation_fields same
+isolation_was (a ∷ b ∷ rest) isolation e = cc
+
 begin_was : (script : Workload) (word : Text) (fields : List Text) (read : ListingLine) → bytes_eq word (codes "begin") ≡ true → 0 < length script.clients → begin_fields script fields ≡ Ok read
     → IsListingLine script (word ∷ fields) read
 begin_was script word fields read named some e =
-    let step = and_then_was (no_fields fields) (λ u. if nat_lt (last_program_count script.clients) 10000 then Ok Begin else Err Count) read e in
-    let tested = if_was (nat_lt (last_program_count script.clients) 10000) (Ok Begin) Count read step.2 in
-    let same : Begin ≡ read = cc (tested.1) in
-    subst (IsListingLine script (word ∷ fields)) same (words_are word (codes "begin") fields _ named (none_was fields step.0 step.1), some, ltb-true (last_program_count script.clients) 10000 tested.0)
+    let step = and_then_was (isolation_field fields) (λ isolation. if nat_lt (last_program_count script.clients) 10000 then (if is_told script.shape.version isolation then Ok (Begin isolation) else Err Version) else Err Count) read e in
+    let isolation = step.0 in
+    let tested = if_was (nat_lt (last_program_count script.clients) 10000) (if is_told script.shape.version isolation then Ok (Begin isolation) else Err Version) Count read step.2 in
+    let told = if_was (is_told script.shape.version isolation) (Ok (Begin isolation)) Version read tested.1 in
+    let same : Begin isolation ≡ read = cc (told.1) in
+    subst (IsListingLine script (word ∷ fields)) same
+    (words_are word (codes "begin") fields _ named (isolation_was fields isolation step.1), some, ltb-true (last_program_count script.clients) 10000 tested.0, told.0)
 
 schedule_was : (script : Workload) (word : Text) (fields : List Text) (read : ListingLine) → bytes_eq word (codes "schedule") ≡ true → and_then (no_fields fields) (λ u. Ok Schedule) ≡ Ok read
     → IsListingLine script (word ∷ fields) read

@@ -1,24 +1,30 @@
 -- What the lines between and in programs lead to.
-use Rattle.std.proofs.Common.{◌≡◌, ℕ, Bool, true, false, ◌&&◌, List, [], ◌∷◌, ◌++◌, length, refl, sym, ap, subst, ◌∙◌, if◌then◌else◌, nat_lt, nat_le}
-use Rattle.std.specs.Prelude.{Result, Ok, Err, bytes_eq, codes}
+use Rattle.std.proofs.Common.{arith, eqb-true, ◌≡◌, ℕ, Bool, true, false, ◌&&◌, ◌||◌, List, [], ◌∷◌, ◌++◌, length, refl, sym, ap, subst, ◌∙◌, if◌then◌else◌, nat_lt, nat_le}
+use Rattle.std.specs.Prelude.{Some, None, Result, Ok, Err, bytes_eq, codes}
+use Rattle.std.specs.Option.{option_map_or}
+use Rattle.std.proofs.lemmas.Bool.{ne_eqb}
 use Rattle.std.proofs.lemmas.Slice.Eq.{bytes_eq-Decides}
+use Rattle.hy_base.specs.declared.record.Isolation.{Isolation}
+use Rattle.hy_base.specs.declared.record.Isolation.TheVariants.{Serializable, Snapshot}
 use Rattle.hy_base.specs.declared.workload.Command.{Command}
+use Rattle.hy_base.specs.declared.workload.Program.{Program}
 use Rattle.hy_base.specs.declared.workload.Command.TheVariants.{Get, Put, Del, Add, Scan}
+use Rattle.hy_base.specs.Entry.{is_told}
 use Rattle.hy_base.specs.Script.{Workload, client_count}
 use Rattle.hy_base.specs.Shape.{is_within}
 use Rattle.hy_base.specs.Value.{is_value}
 use Rattle.hy_base.specs.Spelling.{Text}
-use Rattle.hy_script.specs.Forms.{Meaning, LineForm, judged_words, read_line, read_fields}
+use Rattle.hy_script.specs.Forms.{Meaning, LineForm, Alone, FixedWord, judged_words, meaning_of, is_blank, read_line, read_fields}
 use Rattle.hy_script.specs.Fields.{and_then, one_number, two_numbers, three_numbers, number_and_text, no_fields}
-use Rattle.hy_script.specs.Grammar.{Place, Listing, Programming, Scheduled, client_form, begin_form, schedule_form, forms_at, makes, makes_if, gains, with_client, with_program, last_program_count}
+use Rattle.hy_script.specs.Grammar.{Place, Listing, Programming, Scheduled, client_form, begins_program, begin_forms, schedule_form, forms_at, makes, makes_if, gains, with_client, with_program, gains_command, begun, last_program_count}
 use Rattle.hy_script.specs.LineParts.{leading, after_listing, after_program_line}
 use Rattle.hy_script.specs.ScriptFields.{program_line, listing_line, client_fields, begin_fields, one_more}
 use Rattle.hy_script.specs.declared.script.ProgramLine.TheVariants.{Next, End}
 use Rattle.hy_script.specs.declared.script.ListingLine.{ListingLine}
 use Rattle.hy_script.specs.declared.script.ListingLine.TheVariants.{Client, Begin, Schedule}
 use Rattle.hy_script.specs.declared.why.Why.{Why}
-use Rattle.hy_script.specs.declared.why.Why.TheVariants.{Word, Value, Range, Order, Count}
-use Rattle.hy_script.proofs.FieldLemmas.{read_alone, read_one, read_two, read_three, read_text}
+use Rattle.hy_script.specs.declared.why.Why.TheVariants.{Word, Form, Number, Value, Range, Order, Count, Version}
+use Rattle.hy_script.proofs.FieldLemmas.{read_alone, read_one, read_two, read_three, read_text, other_counts}
 
 -- what leads on for each reading of the fields leads on
 over : {A B : Type 0} (place : B → Place) (read : Result A Why) (meaning : A → Meaning Place) (next : A → Result B Why)
@@ -26,55 +32,55 @@ over : {A B : Type 0} (place : B → Place) (read : Result A Why) (meaning : A �
 over place (Ok a) meaning next each = each a
 over place (Err why) meaning next each = refl
 
-counted : (t : Bool) (script : Workload) (commands : List Command) (c : Command)
-    → judged_words (makes_if ((t, Count) ∷ []) (Programming script (commands ++ c ∷ []))) ≡ leading (after_program_line script commands) (if t then Ok (Next c) else Err Count)
-counted true script commands c = refl
-counted false script commands c = refl
+counted : (t : Bool) (script : Workload) (program : Program) (c : Command)
+    → judged_words (makes_if ((t, Count) ∷ []) (Programming script (gains_command c program))) ≡ leading (after_program_line script program) (if t then Ok (Next c) else Err Count)
+counted true script program c = refl
+counted false script program c = refl
 
-valued : (s t : Bool) (script : Workload) (commands : List Command) (c : Command)
-    → judged_words (makes_if ((s, Value) ∷ (t, Count) ∷ []) (Programming script (commands ++ c ∷ []))) ≡ leading (after_program_line script commands) (if s then (if t then Ok (Next c) else Err Count) else Err Value)
-valued true t script commands c = counted t script commands c
-valued false t script commands c = refl
+valued : (s t : Bool) (script : Workload) (program : Program) (c : Command)
+    → judged_words (makes_if ((s, Value) ∷ (t, Count) ∷ []) (Programming script (gains_command c program))) ≡ leading (after_program_line script program) (if s then (if t then Ok (Next c) else Err Count) else Err Value)
+valued true t script program c = counted t script program c
+valued false t script program c = refl
 
-scanned : (r o t : Bool) (script : Workload) (commands : List Command) (c : Command)
-    → judged_words (makes_if ((r, Range) ∷ (o, Order) ∷ (t, Count) ∷ []) (Programming script (commands ++ c ∷ [])))
-    ≡ leading (after_program_line script commands) (and_then (if r then (if o then Ok c else Err Order) else Err Range) (λ d. if t then Ok (Next d) else Err Count))
-scanned true true t script commands c = counted t script commands c
-scanned true false t script commands c = refl
-scanned false o t script commands c = refl
+scanned : (r o t : Bool) (script : Workload) (program : Program) (c : Command)
+    → judged_words (makes_if ((r, Range) ∷ (o, Order) ∷ (t, Count) ∷ []) (Programming script (gains_command c program)))
+    ≡ leading (after_program_line script program) (and_then (if r then (if o then Ok c else Err Order) else Err Range) (λ d. if t then Ok (Next d) else Err Count))
+scanned true true t script program c = counted t script program c
+scanned true false t script program c = refl
+scanned false o t script program c = refl
 
 joined : {A B C : Type 0} (read : Result A Why) (f : A → Result B Why) (g : B → Result C Why) → and_then read (λ a. and_then (f a) g) ≡ and_then (and_then read f) g
 joined (Ok a) f g = refl
 joined (Err why) f g = refl
 
-module _ (sim : Bool) (number : ℕ) (script : Workload) (commands : List Command) (fields : List Text) where
+module _ (sim : Bool) (number : ℕ) (script : Workload) (program : Program) (fields : List Text) where
   abbrev Leads : Text → Type 0
-  Leads word = leading (after_program_line script commands) (program_line (length commands) (word ∷ fields)) ≡ read_line (forms_at sim (Programming script commands) number) (word ∷ fields)
+  Leads word = leading (after_program_line script program) (program_line (length program.commands) (word ∷ fields)) ≡ read_line (forms_at sim (Programming script program) number) (word ∷ fields)
 
   get_leads : Leads (codes "get")
-  get_leads = sym (read_one "get" _ fields ∙ over _ (one_number fields) (λ key. gains script commands (Get key) []) (λ key. one_more (length commands) (Get key)) (λ key. counted (nat_lt (length commands) 64) script commands (Get key)))
+  get_leads = sym (read_one "get" _ fields ∙ over _ (one_number fields) (λ key. gains script program (Get key) []) (λ key. one_more (length program.commands) (Get key)) (λ key. counted (nat_lt (length program.commands) 64) script program (Get key)))
 
   put_leads : Leads (codes "put")
-  put_leads = sym (read_text "put" _ fields ∙ over _ (number_and_text fields) (λ p. gains script commands (Put p.0 p.1) ((is_value p.1, Value) ∷ [])) (λ p. if is_value p.1 then one_more (length commands) (Put p.0 p.1) else Err Value)
-      (λ p. valued (is_value p.1) (nat_lt (length commands) 64) script commands (Put p.0 p.1)))
+  put_leads = sym (read_text "put" _ fields ∙ over _ (number_and_text fields) (λ p. gains script program (Put p.0 p.1) ((is_value p.1, Value) ∷ [])) (λ p. if is_value p.1 then one_more (length program.commands) (Put p.0 p.1) else Err Value)
+      (λ p. valued (is_value p.1) (nat_lt (length program.commands) 64) script program (Put p.0 p.1)))
 
   del_leads : Leads (codes "del")
-  del_leads = sym (read_one "del" _ fields ∙ over _ (one_number fields) (λ key. gains script commands (Del key) []) (λ key. one_more (length commands) (Del key)) (λ key. counted (nat_lt (length commands) 64) script commands (Del key)))
+  del_leads = sym (read_one "del" _ fields ∙ over _ (one_number fields) (λ key. gains script program (Del key) []) (λ key. one_more (length program.commands) (Del key)) (λ key. counted (nat_lt (length program.commands) 64) script program (Del key)))
 
   add_leads : Leads (codes "add")
-  add_leads = sym (read_two "add" _ fields ∙ over _ (two_numbers fields) (λ p. gains script commands (Add p.0 p.1) []) (λ p. one_more (length commands) (Add p.0 p.1)) (λ p. counted (nat_lt (length commands) 64) script commands (Add p.0 p.1)))
+  add_leads = sym (read_two "add" _ fields ∙ over _ (two_numbers fields) (λ p. gains script program (Add p.0 p.1) []) (λ p. one_more (length program.commands) (Add p.0 p.1)) (λ p. counted (nat_lt (length program.commands) 64) script program (Add p.0 p.1)))
 
   abbrev one_scan : ℕ × ℕ × ℕ → Result Command Why
   one_scan p = if is_within 1 1000 p.2 then (if nat_le p.0 p.1 then Ok (Scan p.0 p.1 p.2) else Err Order) else Err Range
 
   scan_leads : Leads (codes "scan")
   scan_leads = sym (read_three "scan" _ fields
-      ∙ over _ (three_numbers fields) (λ p. gains script commands (Scan p.0 p.1 p.2) ((is_within 1 1000 p.2, Range) ∷ (nat_le p.0 p.1, Order) ∷ [])) (λ p. and_then (one_scan p) (one_more (length commands)))
-      (λ p. scanned (is_within 1 1000 p.2) (nat_le p.0 p.1) (nat_lt (length commands) 64) script commands (Scan p.0 p.1 p.2))
-      ∙ ap (leading (after_program_line script commands)) (joined (three_numbers fields) one_scan (one_more (length commands))))
+      ∙ over _ (three_numbers fields) (λ p. gains script program (Scan p.0 p.1 p.2) ((is_within 1 1000 p.2, Range) ∷ (nat_le p.0 p.1, Order) ∷ [])) (λ p. and_then (one_scan p) (one_more (length program.commands)))
+      (λ p. scanned (is_within 1 1000 p.2) (nat_le p.0 p.1) (nat_lt (length program.commands) 64) script program (Scan p.0 p.1 p.2))
+      ∙ ap (leading (after_program_line script program)) (joined (three_numbers fields) one_scan (one_more (length program.commands))))
 
   end_leads : Leads (codes "end")
-  end_leads = sym (read_alone "end" _ fields ∙ over _ (no_fields fields) (λ u. makes (Listing (with_program commands script))) (λ u. Ok End) (λ u. refl))
+  end_leads = sym (read_alone "end" _ fields ∙ over _ (no_fields fields) (λ u. makes (Listing (with_program program script))) (λ u. Ok End) (λ u. refl))
 
   module _ (word : Text) where
     at_name : (name : Text) → bytes_eq word name ≡ true → Leads name → Leads word
@@ -105,10 +111,10 @@ module _ (sim : Bool) (number : ℕ) (script : Workload) (commands : List Comman
     by_get true a = at_name (codes "get") a get_leads
     by_get false a = by_put (bytes_eq word (codes "put")) a refl
 
-pub program_leads : (sim : Bool) (number : ℕ) (script : Workload) (commands : List Command) (words : List Text)
-    → leading (after_program_line script commands) (program_line (length commands) words) ≡ read_line (forms_at sim (Programming script commands) number) words
-program_leads sim number script commands [] = refl
-program_leads sim number script commands (word ∷ fields) = by_get sim number script commands fields word (bytes_eq word (codes "get")) refl
+pub program_leads : (sim : Bool) (number : ℕ) (script : Workload) (program : Program) (words : List Text)
+    → leading (after_program_line script program) (program_line (length program.commands) words) ≡ read_line (forms_at sim (Programming script program) number) words
+program_leads sim number script program [] = refl
+program_leads sim number script program (word ∷ fields) = by_get sim number script program fields word (bytes_eq word (codes "get")) refl
 
 -- between programs
 
@@ -123,10 +129,44 @@ client_tests : (r : Bool) (script : Workload) (number server : ℕ)
 client_tests true script number server = client_room (nat_lt (client_count script.clients server) 16) script number server
 client_tests false script number server = refl
 
-begin_tests : (t : Bool) (script : Workload) (number : ℕ)
-    → judged_words (makes_if ((t, Count) ∷ []) (Programming script [])) ≡ leading (after_listing script number) (if t then Ok Begin else Err Count)
-begin_tests true script number = refl
-begin_tests false script number = refl
+begin_tests : (t u : Bool) (script : Workload) (number : ℕ) (isolation : Isolation)
+    → judged_words (makes_if ((t, Count) ∷ (u, Version) ∷ []) (Programming script (begun isolation))) ≡ leading (after_listing script number) (if t then (if u then Ok (Begin isolation) else Err Version) else Err Count)
+begin_tests true true script number isolation = refl
+begin_tests true false script number isolation = refl
+begin_tests false u script number isolation = refl
+
+not_blank : (a : Text) → is_blank a ≡ true → bytes_eq a (codes "snapshot") ≡ false
+not_blank [] e = refl
+not_blank (b ∷ a) e = absurd (omega (arith, eqb-true (length (b ∷ a)) 0 e))
+
+-- what a field that isn't blank makes
+one_word : (is : Bool) (a : Text) (script : Workload) (number : ℕ)
+    → leading (after_listing script number) (and_then (if is then Ok Snapshot else Err Form) (λ isolation.
+    if nat_lt (last_program_count script.clients) 10000 then (if is_told script.shape.version isolation then Ok (Begin isolation) else Err Version) else Err Count))
+    ≡ elim (if is then Some (FixedWord "begin" "snapshot" (begins_program script Snapshot)) else None) [ None ↦ Err Form | Some f ↦ option_map_or (λ m. judged_words m) (meaning_of f (a ∷ [])) (Err Number) ]
+one_word true a script number = sym (begin_tests (nat_lt (last_program_count script.clients) 10000) (is_told script.shape.version Snapshot) script number Snapshot)
+one_word false a script number = refl
+
+blank_word : (is : Bool) (script : Workload) (number : ℕ) → is ≡ false
+    → leading (after_listing script number) (and_then (if is then Ok Snapshot else Err Form) (λ isolation.
+    if nat_lt (last_program_count script.clients) 10000 then (if is_told script.shape.version isolation then Ok (Begin isolation) else Err Version) else Err Count))
+    ≡ Err Form
+blank_word true script number other = cc other
+blank_word false script number other = refl
+
+begin_word : (blank is : Bool) (a : Text) (script : Workload) (number : ℕ) → (blank ≡ true → is ≡ false)
+    → leading (after_listing script number) (and_then (if is then Ok Snapshot else Err Form) (λ isolation.
+    if nat_lt (last_program_count script.clients) 10000 then (if is_told script.shape.version isolation then Ok (Begin isolation) else Err Version) else Err Count))
+    ≡ (if blank || false then Err Form
+    else elim (if is then Some (FixedWord "begin" "snapshot" (begins_program script Snapshot)) else None) [ None ↦ Err Form | Some f ↦ option_map_or (λ m. judged_words m) (meaning_of f (a ∷ [])) (Err Number) ])
+begin_word true is a script number blanks = blank_word is script number (blanks refl)
+begin_word false is a script number blanks = one_word is a script number
+
+begin_forms_read : (number : ℕ) (script : Workload) (fields : List Text) → leading (after_listing script number) (begin_fields script fields) ≡ read_fields (begin_forms script) fields
+begin_forms_read number script [] = sym (begin_tests (nat_lt (last_program_count script.clients) 10000) true script number Serializable)
+begin_forms_read number script (a ∷ []) = begin_word (is_blank a) (bytes_eq a (codes "snapshot")) a script number (not_blank a)
+begin_forms_read number script (a ∷ b ∷ rest) =
+    let fields = a ∷ b ∷ rest in sym (other_counts (Alone "begin" (begins_program script Serializable)) (FixedWord "begin" "snapshot" (begins_program script Snapshot)) fields (ne_eqb 0 (length fields) (omega arith)) refl)
 
 -- the same with a stuck test in place
 abbrev listing_with : Bool → Bool → Workload → List Text → Result ListingLine Why
@@ -138,7 +178,7 @@ listing_with sim some script (word ∷ fields) =
     else Err Word
 
 abbrev forms_with : Bool → Bool → Workload → ℕ → List (LineForm Place)
-forms_with sim some script number = client_form script ∷ (if some then begin_form script ∷ [] else []) ++ (if sim then schedule_form number script ∷ [] else [])
+forms_with sim some script number = client_form script ∷ (if some then begin_forms script else []) ++ (if sim then schedule_form number script ∷ [] else [])
 
 module _ (number : ℕ) (script : Workload) (fields : List Text) where
   abbrev Lists : Bool → Bool → Text → Type 0
@@ -156,10 +196,8 @@ module _ (number : ℕ) (script : Workload) (fields : List Text) where
       (λ n. and_then (one_client n) with_room) (λ n. client_tests (is_within 1 script.servers n) script number n)
       ∙ ap (leading (after_listing script number)) (joined (one_number fields) one_client with_room))
 
-  begin_read : leading (after_listing script number) (begin_fields script fields) ≡ read_fields (begin_form script ∷ []) fields
-  begin_read = sym (read_alone "begin" _ fields
-      ∙ over (after_listing script number) (no_fields fields) (λ u. makes_if ((nat_lt (last_program_count script.clients) 10000, Count) ∷ []) (Programming script []))
-      (λ u. if nat_lt (last_program_count script.clients) 10000 then Ok Begin else Err Count) (λ u. begin_tests (nat_lt (last_program_count script.clients) 10000) script number))
+  begin_read : leading (after_listing script number) (begin_fields script fields) ≡ read_fields (begin_forms script) fields
+  begin_read = begin_forms_read number script fields
 
   schedule_read : leading (after_listing script number) (and_then (no_fields fields) (λ u. Ok Schedule)) ≡ read_fields (schedule_form number script ∷ []) fields
   schedule_read = sym (read_alone "schedule" _ fields ∙ over (after_listing script number) (no_fields fields) (λ u. makes (Scheduled script number)) (λ u. Ok Schedule) (λ u. refl))

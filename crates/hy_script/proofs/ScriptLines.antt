@@ -1,32 +1,54 @@
 -- What the lines of a script lead to.
-use Rattle.std.proofs.Common.{arith, suc, ◌-◌, get_or, ◌≡◌, ℕ, ◌<◌, Bool, true, false, List, [], ◌∷◌, length, refl, sym, ap, subst, ◌∙◌, if◌then◌else◌}
-use Rattle.std.specs.Prelude.{Result, Ok, Err, bytes_eq, codes}
+use Rattle.std.proofs.Common.{arith, lt-ltb, suc, ◌-◌, get_or, ◌≡◌, ℕ, ◌<◌, Bool, true, false, List, [], ◌∷◌, length, refl, sym, ap, subst, ◌∙◌, ◌&&◌, nat_lt, if◌then◌else◌}
+use Rattle.std.specs.Prelude.{Some, Result, Ok, Err, bytes_eq, codes, slice_get}
 use Rattle.hy_base.specs.declared.layout.Shape.{Shape}
 use Rattle.hy_base.specs.declared.workload.Client.{Client}
+use Rattle.hy_base.specs.Entry.{is_told}
+use Rattle.hy_base.specs.Script.{Workload}
 use Rattle.hy_base.specs.Shape.{is_within}
-use Rattle.hy_base.specs.Spelling.{Text}
-use Rattle.hy_script.specs.Forms.{judged_words, read_line}
-use Rattle.hy_script.specs.Fields.{and_then, three_numbers, one_number}
-use Rattle.hy_script.specs.Grammar.{Place, AtStart, Shaped, Listing, last_program_count, is_shape, forms_at, makes_if}
+use Rattle.hy_base.specs.Spelling.{Text, number_of}
+use Rattle.hy_script.specs.Forms.{ThreeNumbers, FourNumbers, judged_words, read_line, read_fields, is_blank}
+use Rattle.hy_script.specs.Fields.{and_then, three_numbers, one_number, no_fields}
+use Rattle.hy_script.specs.Grammar.{Place, AtStart, Shaped, Listing, last_program_count, is_versioned, shape_where, shaped, shape_forms, forms_at, makes_if}
 use Rattle.hy_script.specs.LineParts.{leading}
-use Rattle.hy_script.specs.ScriptFields.{shape_line, servers_line}
+use Rattle.hy_script.specs.ScriptFields.{shape_line, shape_numbers, servers_line, begin_fields, isolation_field, listing_line}
+use Rattle.hy_script.specs.declared.script.ListingLine.{ListingLine}
+use Rattle.hy_script.specs.declared.script.ListingLine.TheVariants.{Begin, Schedule}
 use Rattle.hy_script.specs.declared.why.Why.{Why}
-use Rattle.hy_script.specs.declared.why.Why.TheVariants.{Range}
+use Rattle.hy_script.specs.declared.why.Why.TheVariants.{Word, Form, Range, Count, Version}
+use Rattle.std.specs.List.{list_any}
+use Rattle.std.proofs.lemmas.Bool.{ne_eqb}
 use Rattle.std.proofs.lemmas.Slice.Eq.{bytes_eq-Decides}
-use Rattle.hy_script.proofs.FieldLemmas.{read_one, read_three}
+use Rattle.hy_script.proofs.FieldLemmas.{read_one, three_fields, four_fields, same_either, other_counts}
 
 one_test : (t : Bool) (shape : Shape) → judged_words (makes_if ((t, Range) ∷ []) (Shaped shape)) ≡ leading Shaped (if t then Ok shape else Err Range)
 one_test true shape = refl
 one_test false shape = refl
 
-shape_after : (numbers : Result (ℕ × ℕ × ℕ) Why)
-    → and_then numbers (λ p. judged_words (makes_if ((is_shape p.0 p.1 p.2, Range) ∷ []) (Shaped (record { group = p.0; window = p.1; cap = p.2 }))))
-    ≡ leading Shaped (and_then numbers (λ p. if is_shape p.0 p.1 p.2 then Ok (record { group = p.0; window = p.1; cap = p.2 }) else Err Range))
-shape_after (Ok p) = one_test (is_shape p.0 p.1 p.2) (record { group = p.0; window = p.1; cap = p.2 })
+shape_after : (numbers : Result (ℕ × ℕ × ℕ × ℕ) Why)
+    → and_then numbers (λ p. judged_words (shaped p.0 p.1 p.2 p.3)) ≡ leading Shaped (and_then numbers (λ p. shape_where p.0 p.1 p.2 p.3))
+shape_after (Ok p) = one_test (is_versioned p.0 p.1 p.2 p.3) (record { group = p.0; window = p.1; cap = p.2; version = p.3 })
 shape_after (Err why) = refl
 
+-- three numbers are those of version 1
+first_version : (numbers : Result (ℕ × ℕ × ℕ) Why)
+    → and_then numbers (λ p. judged_words (shaped p.0 p.1 p.2 1)) ≡ and_then {A = ℕ × ℕ × ℕ × ℕ} (and_then numbers (λ p. Ok (p.0, p.1, p.2, 1))) (λ p. judged_words (shaped p.0 p.1 p.2 p.3))
+first_version (Ok p) = refl
+first_version (Err why) = refl
+
+shape_read : (fields : List Text) → read_fields shape_forms fields ≡ and_then (shape_numbers fields) (λ p. judged_words (shaped p.0 p.1 p.2 p.3))
+shape_read [] = refl
+shape_read (a ∷ []) = same_either (list_any is_blank (a ∷ [])) (Err Form)
+shape_read (a ∷ b ∷ []) = same_either (list_any is_blank (a ∷ b ∷ [])) (Err Form)
+shape_read (a ∷ b ∷ c ∷ []) =
+    three_fields (list_any is_blank (a ∷ b ∷ c ∷ [])) (λ k l m. shaped k l m 1) (number_of a) (number_of b) (number_of c) ∙ first_version (three_numbers (a ∷ b ∷ c ∷ []))
+shape_read (a ∷ b ∷ c ∷ d ∷ []) = four_fields (list_any is_blank (a ∷ b ∷ c ∷ d ∷ [])) shaped (number_of a) (number_of b) (number_of c) (number_of d)
+shape_read (a ∷ b ∷ c ∷ d ∷ e ∷ rest) =
+    let fields = a ∷ b ∷ c ∷ d ∷ e ∷ rest in
+    other_counts (ThreeNumbers "shape" (λ k l m. shaped k l m 1)) (FourNumbers "shape" shaped) fields (ne_eqb 3 (length fields) (omega arith)) (ne_eqb 4 (length fields) (omega arith))
+
 shape_named : (sim : Bool) (number : ℕ) (fields : List Text) → leading Shaped (shape_line (codes "shape" ∷ fields)) ≡ read_line (forms_at sim AtStart number) (codes "shape" ∷ fields)
-shape_named sim number fields = sym (read_three "shape" _ fields ∙ shape_after (three_numbers fields))
+shape_named sim number fields = sym (shape_read fields ∙ shape_after (shape_numbers fields))
 
 shape_by : (sim : Bool) (number : ℕ) (word : Text) (fields : List Text) (t : Bool) → bytes_eq word (codes "shape") ≡ t
     → leading Shaped (shape_line (word ∷ fields)) ≡ read_line (forms_at sim AtStart number) (word ∷ fields)
@@ -68,3 +90,30 @@ last_count (c ∷ []) d some = refl
 last_count (c ∷ e ∷ cs) d some =
     let at : length (c ∷ e ∷ cs) - 1 ≡ suc (length (e ∷ cs) - 1) = omega arith in
     last_count (e ∷ cs) d (omega arith) ∙ sym (ap (λ k. length (get_or (c ∷ e ∷ cs) k d).programs) at)
+
+-- a further program of the last client is read as its line is
+pub begin_listed : (sim : Bool) (script : Workload) (version : ℕ) (last : Client) (words rest : List Text) (word : Text) (read : Result ListingLine Why)
+    → words ≡ word ∷ rest → bytes_eq word (codes "begin") ≡ true → nat_lt 0 (length script.clients) ≡ true → last_program_count script.clients ≡ length last.programs → script.shape.version ≡ version
+    → read ≡ and_then (isolation_field rest) (λ isolation. if nat_lt (length last.programs) 10000 then (if is_told version isolation then Ok (Begin isolation) else Err Version) else Err Count)
+    → read ≡ listing_line sim script words
+begin_listed sim script version last words rest word read split named some count told is =
+    let begins : listing_line sim script (codes "begin" ∷ rest) ≡ begin_fields script rest = ap (λ t. if t && true then begin_fields script rest else if sim && false then and_then (no_fields rest) (λ u. Ok Schedule) else Err Word) some in
+    let counted : begin_fields script rest ≡ and_then (isolation_field rest) (λ isolation. if nat_lt (length last.programs) 10000 then (if is_told script.shape.version isolation then Ok (Begin isolation) else Err Version) else Err Count) =
+    ap (λ n. and_then (isolation_field rest) (λ isolation. if nat_lt n 10000 then (if is_told script.shape.version isolation then Ok (Begin isolation) else Err Version) else Err Count)) count in
+    let versioned : and_then (isolation_field rest) (λ isolation. if nat_lt (length last.programs) 10000 then (if is_told script.shape.version isolation then Ok (Begin isolation) else Err Version) else Err Count)
+    ≡ and_then (isolation_field rest) (λ isolation. if nat_lt (length last.programs) 10000 then (if is_told version isolation then Ok (Begin isolation) else Err Version) else Err Count) =
+    ap (λ v. and_then (isolation_field rest) (λ isolation. if nat_lt (length last.programs) 10000 then (if is_told v isolation then Ok (Begin isolation) else Err Version) else Err Count)) told in
+    is ∙ sym (ap (listing_line sim script) (split ∙ ap (λ w. w ∷ rest) ((bytes_eq-Decides word (codes "begin")).0 named)) ∙ begins ∙ counted ∙ versioned)
+
+-- there is a client, and this is the last one
+pub record IsLastClient (cs : List Client) (last : Client) : Type 0 where
+  pub some : nat_lt 0 (length cs) ≡ true
+  pub count : last_program_count cs ≡ length last.programs
+
+pub is_last : (cs : List Client) (last : Client) → Some last ≡ slice_get cs (length cs - 1) → IsLastClient cs last
+is_last [] last is = cc
+is_last (c ∷ []) last is = let same : last ≡ c = cc is in record { some = refl; count = ap (λ d. length d.programs) (sym same) }
+is_last (c ∷ e ∷ cs) last is =
+    let at : length (c ∷ e ∷ cs) - 1 ≡ suc (length (e ∷ cs) - 1) = omega arith in
+    let later = is_last (e ∷ cs) last (is ∙ ap (slice_get (c ∷ e ∷ cs)) at) in
+    record { some = lt-ltb 0 (length (c ∷ e ∷ cs)) (omega arith); count = later.count }

@@ -1,18 +1,22 @@
 -- The lines of a script and of a schedule: which may stand where, and what each of them makes.
-use Rattle.std.specs.Prelude.{ℕ, ◌%◌, Bool, ◌&&◌, List, [], ◌∷◌, ◌++◌, length, nat_lt, nat_le, ◌==◌, if◌then◌else◌, Result}
+use Rattle.std.specs.Prelude.{ℕ, ◌%◌, Bool, ◌&&◌, List, [], ◌∷◌, ◌++◌, length, nat_lt, nat_le, ◌==◌, if◌then◌else◌, Result, Ok, Err}
 use Rattle.hy_base.specs.declared.layout.Shape.{Shape}
 use Rattle.hy_base.specs.declared.workload.Command.{Command}
 use Rattle.hy_base.specs.declared.workload.Command.TheVariants.{Get, Put, Del, Add, Scan}
 use Rattle.hy_base.specs.declared.workload.Client.{Client}
+use Rattle.hy_base.specs.declared.workload.Program.{Program}
 use Rattle.hy_base.specs.declared.workload.Event.{Event}
 use Rattle.hy_base.specs.declared.workload.Event.TheVariants.{Begin, Append, End, Refuse, Pad, Publish, Stop}
 use Rattle.hy_base.specs.Script.{Workload, client_count}
-use Rattle.hy_base.specs.Shape.{is_within}
+use Rattle.hy_base.specs.Shape.{newest_version, is_within}
+use Rattle.hy_base.specs.declared.record.Isolation.{Isolation}
+use Rattle.hy_base.specs.declared.record.Isolation.TheVariants.{Serializable, Snapshot}
+use Rattle.hy_base.specs.Entry.{is_told}
 use Rattle.hy_base.specs.Value.{is_value}
 use Rattle.hy_base.specs.Spelling.{Text}
-use Rattle.hy_script.specs.Forms.{Meaning, LineForm, Alone, OneNumber, TwoNumbers, ThreeNumbers, NumberAndText, read_line}
+use Rattle.hy_script.specs.Forms.{Meaning, LineForm, Alone, OneNumber, TwoNumbers, ThreeNumbers, FourNumbers, NumberAndText, FixedWord, read_line}
 use Rattle.hy_script.specs.declared.why.Why.{Why}
-use Rattle.hy_script.specs.declared.why.Why.TheVariants.{Value, Range, Order, Count}
+use Rattle.hy_script.specs.declared.why.Why.TheVariants.{Value, Range, Order, Count, Version}
 
 -- Where a reading stands: what was read, by what may come next.
 pub data Place : Type 0 where
@@ -22,8 +26,8 @@ pub data Place : Type 0 where
   Shaped : Shape → Place
   -- the servers too, and any number of whole clients and programs
   Listing : Workload → Place
-  -- and a program's commands so far
-  Programming : Workload → List Command → Place
+  -- and a program with its commands so far
+  Programming : Workload → Program → Place
   -- all, and the number of the line 'schedule'
   Scheduled : Workload → ℕ → Place
 
@@ -49,22 +53,39 @@ change_last f [] = []
 change_last f (x ∷ []) = f x ∷ []
 change_last f (x ∷ y ∷ xs) = x ∷ change_last f (y ∷ xs)
 
-abbrev pub gains_program : List Command → Client → Client
-gains_program commands c = record c { programs = c.programs ++ record { commands = commands } ∷ [] }
+abbrev pub gains_program : Program → Client → Client
+gains_program program c = record c { programs = c.programs ++ program ∷ [] }
 
 -- the last client gains a program
-abbrev pub with_program : List Command → Workload → Workload
-with_program commands script = record script { clients = change_last (gains_program commands) script.clients }
+abbrev pub with_program : Program → Workload → Workload
+with_program program script = record script { clients = change_last (gains_program program) script.clients }
+
+-- a program without commands
+abbrev pub begun : Isolation → Program
+begun isolation = record { isolation = isolation; commands = [] }
+
+abbrev pub gains_command : Command → Program → Program
+gains_command command program = record program { commands = program.commands ++ command ∷ [] }
 
 -- the ranges of a shape: whole groups of 1 to 8 up to the capacity, and windows of 1 to 64
 abbrev pub is_shape : ℕ → ℕ → ℕ → Bool
 is_shape group window cap =
     is_within 1 8 group && (is_within 1 64 window && (is_within group 2147483648 cap && (cap % group == 0)))
 
--- shape G W CAP
-abbrev pub shape_form : LineForm Place
-shape_form = ThreeNumbers "shape" (λ group window cap.
-    makes_if ((is_shape group window cap, Range) ∷ []) (Shaped (record { group = group; window = window; cap = cap })))
+-- and of a version
+abbrev pub is_versioned : ℕ → ℕ → ℕ → ℕ → Bool
+is_versioned group window cap version = is_shape group window cap && is_within 1 newest_version version
+
+abbrev pub shape_where : ℕ → ℕ → ℕ → ℕ → Result Shape Why
+shape_where group window cap version = if is_versioned group window cap version then Ok (record { group = group; window = window; cap = cap; version = version }) else Err Range
+
+abbrev pub shaped : ℕ → ℕ → ℕ → ℕ → Meaning Place
+shaped group window cap version =
+    makes_if ((is_versioned group window cap version, Range) ∷ []) (Shaped (record { group = group; window = window; cap = cap; version = version }))
+
+-- shape G W CAP, of version 1, and shape G W CAP V
+abbrev pub shape_forms : List (LineForm Place)
+shape_forms = ThreeNumbers "shape" (λ group window cap. shaped group window cap 1) ∷ FourNumbers "shape" shaped ∷ []
 
 -- servers S
 abbrev pub servers_form : Shape → LineForm Place
@@ -76,41 +97,46 @@ abbrev pub client_form : Workload → LineForm Place
 client_form script = OneNumber "client" (λ server.
     makes_if ((is_within 1 script.servers server, Range) ∷ (nat_lt (client_count script.clients server) 16, Count) ∷ []) (Listing (with_client server script)))
 
--- begin
-abbrev pub begin_form : Workload → LineForm Place
-begin_form script = Alone "begin" (makes_if ((nat_lt (last_program_count script.clients) 10000, Count) ∷ []) (Programming script []))
+-- a further program of the last client
+abbrev pub begins_program : Workload → Isolation → Meaning Place
+begins_program script isolation =
+    makes_if ((nat_lt (last_program_count script.clients) 10000, Count) ∷ (is_told script.shape.version isolation, Version) ∷ []) (Programming script (begun isolation))
+
+-- begin, and begin snapshot
+abbrev pub begin_forms : Workload → List (LineForm Place)
+begin_forms script = Alone "begin" (begins_program script Serializable) ∷ FixedWord "begin" "snapshot" (begins_program script Snapshot) ∷ []
 
 -- end
-abbrev pub end_form : Workload → List Command → LineForm Place
-end_form script commands = Alone "end" (makes (Listing (with_program commands script)))
+abbrev pub end_form : Workload → Program → LineForm Place
+end_form script program = Alone "end" (makes (Listing (with_program program script)))
 
 -- schedule, on this line
 abbrev pub schedule_form : ℕ → Workload → LineForm Place
 schedule_form number script = Alone "schedule" (makes (Scheduled script number))
 
 -- a further command of a program, with tests of its own
-abbrev pub gains : Workload → List Command → Command → List (Bool × Why) → Meaning Place
-gains script commands command tests = makes_if (tests ++ (nat_lt (length commands) 64, Count) ∷ []) (Programming script (commands ++ command ∷ []))
+abbrev pub gains : Workload → Program → Command → List (Bool × Why) → Meaning Place
+gains script program command tests = makes_if (tests ++ (nat_lt (length program.commands) 64, Count) ∷ []) (Programming script (gains_command command program))
 
 -- get K, put K V, del K, add K N, scan LO HI N
-abbrev pub command_forms : Workload → List Command → List (LineForm Place)
-command_forms script commands =
-    OneNumber "get" (λ key. gains script commands (Get key) [])
-    ∷ NumberAndText "put" (λ key value. gains script commands (Put key value) ((is_value value, Value) ∷ []))
-    ∷ OneNumber "del" (λ key. gains script commands (Del key) [])
-    ∷ TwoNumbers "add" (λ key n. gains script commands (Add key n) [])
-    ∷ ThreeNumbers "scan" (λ lo hi n. gains script commands (Scan lo hi n) ((is_within 1 1000 n, Range) ∷ (nat_le lo hi, Order) ∷ []))
+abbrev pub command_forms : Workload → Program → List (LineForm Place)
+command_forms script program =
+    OneNumber "get" (λ key. gains script program (Get key) [])
+    ∷ NumberAndText "put" (λ key value. gains script program (Put key value) ((is_value value, Value) ∷ []))
+    ∷ OneNumber "del" (λ key. gains script program (Del key) [])
+    ∷ TwoNumbers "add" (λ key n. gains script program (Add key n) [])
+    ∷ ThreeNumbers "scan" (λ lo hi n. gains script program (Scan lo hi n) ((is_within 1 1000 n, Range) ∷ (nat_le lo hi, Order) ∷ []))
     ∷ []
 
 -- The lines that may stand at a place, this being the line with the number that is given. Where there is a simulation a schedule may follow the clients.
 abbrev pub forms_at : Bool → Place → ℕ → List (LineForm Place)
-forms_at sim AtStart number = shape_form ∷ []
+forms_at sim AtStart number = shape_forms
 forms_at sim (Shaped shape) number = servers_form shape ∷ []
 forms_at sim (Listing script) number =
     client_form script
-    ∷ (if nat_lt 0 (length script.clients) then begin_form script ∷ [] else [])
+    ∷ (if nat_lt 0 (length script.clients) then begin_forms script else [])
     ++ (if sim then schedule_form number script ∷ [] else [])
-forms_at sim (Programming script commands) number = command_forms script commands ++ end_form script commands ∷ []
+forms_at sim (Programming script program) number = command_forms script program ++ end_form script program ∷ []
 forms_at sim (Scheduled script start) number = []
 
 abbrev pub event_of_client : Workload → Event → ℕ → Meaning Event

@@ -36,7 +36,7 @@ start_after number bytes = record { offset = offset_after number bytes; line = n
 abbrev pub script_ended : Text → Place → Result Reading Refused
 script_ended bytes AtStart = refused_at (length (lines_of bytes) + 1) Missing
 script_ended bytes (Shaped shape) = refused_at (length (lines_of bytes) + 1) Missing
-script_ended bytes (Programming script commands) = refused_at (length (lines_of bytes) + 1) Missing
+script_ended bytes (Programming script program) = refused_at (length (lines_of bytes) + 1) Missing
 script_ended bytes (Listing script) = Ok (record { script = script; schedule = None })
 script_ended bytes (Scheduled script start) = Ok (record { script = script; schedule = Some (start_after start bytes) })
 

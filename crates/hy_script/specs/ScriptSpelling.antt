@@ -1,5 +1,8 @@
 -- How a script and a schedule are written: each line as the grammar has it, no comments and no empty lines.
-use Rattle.std.specs.Prelude.{List, [], ◌∷◌, ◌++◌, map, flat_map, codes, decimal}
+use Rattle.std.specs.Prelude.{ℕ, ◌==◌, if◌then◌else◌, List, [], ◌∷◌, ◌++◌, map, flat_map, codes, decimal}
+use Rattle.hy_base.specs.declared.layout.Shape.{Shape}
+use Rattle.hy_base.specs.declared.record.Isolation.{Isolation}
+use Rattle.hy_base.specs.declared.record.Isolation.TheVariants.{Serializable, Snapshot}
 use Rattle.hy_base.specs.declared.workload.Command.{Command}
 use Rattle.hy_base.specs.declared.workload.Command.TheVariants.{Get, Put, Del, Add, Scan}
 use Rattle.hy_base.specs.declared.workload.Client.{Client}
@@ -15,16 +18,27 @@ command_words (Del key) = codes "del" ∷ decimal key ∷ []
 command_words (Add key n) = codes "add" ∷ decimal key ∷ decimal n ∷ []
 command_words (Scan lo hi n) = codes "scan" ∷ decimal lo ∷ decimal hi ∷ decimal n ∷ []
 
+abbrev pub isolation_fields : Isolation → List Text
+isolation_fields Serializable = []
+isolation_fields Snapshot = codes "snapshot" ∷ []
+
+-- version 1 is told by no word
+abbrev pub version_fields : ℕ → List Text
+version_fields version = if version == 1 then [] else decimal version ∷ []
+
 abbrev pub program_lines : Program → List (List Text)
-program_lines program = (codes "begin" ∷ []) ∷ map command_words program.commands ++ (codes "end" ∷ []) ∷ []
+program_lines program = (codes "begin" ∷ isolation_fields program.isolation) ∷ map command_words program.commands ++ (codes "end" ∷ []) ∷ []
 
 abbrev pub client_lines : Client → List (List Text)
 client_lines client = (codes "client" ∷ decimal client.server ∷ []) ∷ flat_map program_lines client.programs
 
+abbrev pub spelled_shape : Shape → List Text
+spelled_shape shape = codes "shape" ∷ decimal shape.group ∷ decimal shape.window ∷ decimal shape.cap ∷ version_fields shape.version
+
 -- the words of a script's lines
 abbrev pub script_lines : Workload → List (List Text)
 script_lines script =
-    (codes "shape" ∷ decimal script.shape.group ∷ decimal script.shape.window ∷ decimal script.shape.cap ∷ [])
+    spelled_shape script.shape
     ∷ (codes "servers" ∷ decimal script.servers ∷ [])
     ∷ flat_map client_lines script.clients
 

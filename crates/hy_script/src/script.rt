@@ -1,22 +1,27 @@
 //! The lines of a script.
-ghost use Rattle.std.specs.Prelude.{◌≡◌, ◌<◌, ℕ, List, Ok, Err, length, if◌then◌else◌, nat_lt, IfOk};
+ghost use Rattle.std.specs.Prelude.{◌≡◌, ◌<◌, ℕ, true, List, Ok, Err, length, if◌then◌else◌, nat_lt, IfOk};
+ghost use Rattle.hy_base.specs.declared.record.Isolation.{Isolation};
+ghost use Rattle.hy_base.specs.Entry.{is_told};
 ghost use Rattle.hy_base.specs.Script.{IsCommand, client_count};
 ghost use Rattle.hy_base.specs.Shape.{IsGoodShape, IsWithin};
-ghost use Rattle.hy_script.specs.Fields.{HasFields, and_then, one_number, two_numbers, three_numbers, no_fields};
+ghost use Rattle.hy_script.specs.Fields.{HasFields, and_then, one_number, two_numbers, three_numbers, four_numbers, no_fields};
 ghost use Rattle.hy_script.specs.LineParts.{IsClientListed, IsNextLine};
-ghost use Rattle.hy_script.specs.ScriptFields.{shape_fields, scan_fields, ValueOf, shape_line, servers_line, number_within, client_fields, listing_line, one_more, put_fields, program_line, TellsField};
+ghost use Rattle.hy_script.specs.ScriptFields.{shape_fields, shape_numbers, isolation_field, scan_fields, ValueOf, shape_line, servers_line, number_within, client_fields, listing_line, one_more, put_fields, program_line, TellsField};
 ghost use Rattle.hy_script.specs.Lines.{words_of};
 ghost use Rattle.hy_base.specs.declared.workload.Command.TheVariants.{Get, Del, Add};
 ghost use Rattle.hy_base.specs.Limits.{IsServerNumber};
 ghost use Rattle.hy_script.specs.declared.script.ListingLine.TheVariants.{Begin, Schedule};
 ghost use Rattle.hy_script.specs.declared.script.ProgramLine.TheVariants.{End};
-ghost use Rattle.hy_script.specs.declared.why.Why.TheVariants.{Count};
+ghost use Rattle.hy_script.specs.declared.why.Why.TheVariants.{Count, Version};
 
 use crate::Why;
 use crate::words::{
-    Fields, cut_fields, no_fields, number_and_text, one_number, three_numbers, two_numbers,
+    Fields, cut_fields, four_numbers, no_fields, number_and_text, one_number, three_numbers,
+    two_numbers,
 };
-use hy_base::{Client, Command, Shape, Value, ValueError};
+use hy_base::{
+    Client, Command, Isolation, NEWEST_VERSION, Shape, Value, ValueError, tells_isolation,
+};
 use std::alloc::{AllocError, Global};
 
 /// Why a line was not read.
@@ -52,7 +57,7 @@ impl From<AllocError> for LineError {
 #[derive(Clone, Copy)]
 pub enum ListingLine {
     Client(u8),
-    Begin,
+    Begin(Isolation),
     Schedule,
 }
 
@@ -63,21 +68,38 @@ pub enum ProgramLine {
     End,
 }
 
+// Three numbers are a shape of version 1.
+fn shape_numbers(fields: Fields<'_>) -> Result<(u64, u64, u64, u64), Why>
+    ensures { (words : List (List ℕ)) → HasFields fields.entry words → result ≡ shape_numbers words }
+{
+    match fields {
+        Fields::Four(..) => four_numbers(fields),
+        _ => {
+            let (group, window, cap) = three_numbers(fields)?;
+            Ok((group, window, cap, 1))
+        }
+    }
+}
+
 fn shape_of(fields: Fields<'_>) -> Result<Shape, Why>
     ensures exact { (words : List (List ℕ)) → HasFields fields.entry words → result ≡ shape_fields words }
     ensures good { IfOk result IsGoodShape }
 {
-    let (group, window, cap) = three_numbers(fields)?;
+    let (group, window, cap, version) = shape_numbers(fields)?;
     if group < 1 || group > 8 || window < 1 || window > 64 {
         return Err(Why::Range);
     }
     if cap < group || cap > 2147483648 || cap % group != 0 {
         return Err(Why::Range);
     }
+    if version < 1 || version > NEWEST_VERSION as u64 {
+        return Err(Why::Range);
+    }
     Ok(Shape {
         group: group as u8,
         window: window as u8,
         cap: cap as u32,
+        version: version as u8,
     })
 }
 
@@ -129,7 +151,7 @@ fn count_of(clients: &[Client], server: u8) -> usize
 
 fn client_of(servers: u8, clients: &[Client], fields: Fields<'_>) -> Result<ListingLine, Why>
     ensures exact { (words : List (List ℕ)) (shape : Shape) → HasFields fields.entry words → result ≡ client_fields (record { shape = shape; servers = servers; clients = clients.now }) words }
-    ensures fits { IfOk result (IsClientListed servers clients.now) }
+    ensures fits { (version : ℕ) → IfOk result (IsClientListed version servers clients.now) }
 {
     let server = within(1, servers, fields)?;
     if count_of(clients, server) < 16 {
@@ -139,13 +161,44 @@ fn client_of(servers: u8, clients: &[Client], fields: Fields<'_>) -> Result<List
     }
 }
 
-fn begin_of(last: &Client, fields: Fields<'_>) -> Result<ListingLine, Why>
-    ensures exact { (words : List (List ℕ)) → HasFields fields.entry words → result ≡ and_then (no_fields words) (λ u. if nat_lt (length last.now.programs) 10000 then Ok Begin else Err Count) }
-    ensures fits { IfOk result (λ l. (l ≡ Begin) × (length last.now.programs < 10000)) }
+// A program is at Serializable isolation unless its line says otherwise.
+fn isolation_of(fields: Fields<'_>) -> Result<Isolation, Why>
+    ensures { (words : List (List ℕ)) → HasFields fields.entry words → result ≡ isolation_field words }
 {
-    no_fields(fields)?;
+    match fields {
+        Fields::Zero => Ok(Isolation::Serializable),
+        Fields::One(word) => {
+            if word == b"snapshot".as_slice() {
+                Ok(Isolation::Snapshot)
+            } else {
+                Err(Why::Form)
+            }
+        }
+        _ => Err(Why::Form),
+    }
+}
+
+// A version tells this isolation.
+fn is_told(version: u8, isolation: Isolation) -> bool
+    ensures { result ≡ is_told version isolation }
+{
+    match isolation {
+        Isolation::Serializable => true,
+        Isolation::Snapshot => tells_isolation(version),
+    }
+}
+
+fn begin_of(version: u8, last: &Client, fields: Fields<'_>) -> Result<ListingLine, Why>
+    ensures exact { (words : List (List ℕ)) → HasFields fields.entry words → result ≡ and_then (isolation_field words) (λ isolation. if nat_lt (length last.now.programs) 10000 then (if is_told version isolation then Ok (Begin isolation) else Err Version) else Err Count) }
+    ensures fits { IfOk result (λ l. (isolation : Isolation) × (l ≡ Begin isolation) × (length last.now.programs < 10000) × (is_told version isolation ≡ true)) }
+{
+    let isolation = isolation_of(fields)?;
     if last.programs.len() < 10000 {
-        Ok(ListingLine::Begin)
+        if is_told(version, isolation) {
+            Ok(ListingLine::Begin(isolation))
+        } else {
+            Err(Why::Version)
+        }
     } else {
         Err(Why::Count)
     }
@@ -193,12 +246,13 @@ fn value_of(alloc: Global, text: &[u8]) -> Result<Value, LineError>
 #[tactic(auto, using(crate::proofs::ScriptLines::last_count))]
 pub fn read_listing(
     sim: bool,
+    version: u8,
     servers: u8,
     clients: &[Client],
     line: &[u8],
 ) -> Result<ListingLine, Why>
-    ensures exact { (shape : Shape) → result ≡ listing_line sim (record { shape = shape; servers = servers; clients = clients.now }) (words_of line.now) }
-    ensures fits { IfOk result (IsClientListed servers clients.now) }
+    ensures exact { (shape : Shape) → shape.version ≡ version → result ≡ listing_line sim (record { shape = shape; servers = servers; clients = clients.now }) (words_of line.now) }
+    ensures fits { IfOk result (IsClientListed version servers clients.now) }
 {
     let (word, fields) = cut_fields(line);
     if word == b"client".as_slice() {
@@ -206,7 +260,7 @@ pub fn read_listing(
     }
     if word == b"begin".as_slice() {
         return match clients.last() {
-            Some(last) => begin_of(last, fields),
+            Some(last) => begin_of(version, last, fields),
             None => Err(Why::Word),
         };
     }

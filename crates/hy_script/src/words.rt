@@ -2,7 +2,7 @@
 ghost use Rattle.std.specs.Prelude.{◌≡◌, ℕ, List, []};
 ghost use Rattle.std.specs.Option.{option_map_or};
 ghost use Rattle.hy_script.specs.Lines.{pieces_of, words_of};
-ghost use Rattle.hy_script.specs.Fields.{HasFields, HasWords, number_field, one_number, two_numbers, three_numbers, number_and_text, no_fields};
+ghost use Rattle.hy_script.specs.Fields.{HasFields, HasWords, number_field, one_number, two_numbers, three_numbers, four_numbers, number_and_text, no_fields};
 ghost use Rattle.std.specs.Result.{result_map_both};
 
 use crate::Why;
@@ -16,7 +16,8 @@ pub enum Fields<'a> {
     One(&'a [u8]),
     Two(&'a [u8], &'a [u8]),
     Three(&'a [u8], &'a [u8], &'a [u8]),
-    /// One is empty, or there are more than three.
+    Four(&'a [u8], &'a [u8], &'a [u8], &'a [u8]),
+    /// One is empty, or there are more than four.
     Bad,
 }
 
@@ -45,8 +46,15 @@ fn fields_of(rest: Option<&[u8]>) -> Fields<'_>
     if third.is_empty() {
         return Fields::Bad;
     }
+    let Some(rest) = rest else {
+        return Fields::Three(first, second, third);
+    };
+    let (fourth, rest) = cut(b' ', rest);
+    if fourth.is_empty() {
+        return Fields::Bad;
+    }
     match rest {
-        None => Fields::Three(first, second, third),
+        None => Fields::Four(first, second, third, fourth),
         Some(_) => Fields::Bad,
     }
 }
@@ -91,6 +99,23 @@ pub fn three_numbers(fields: Fields<'_>) -> Result<(u64, u64, u64), Why>
 {
     match fields {
         Fields::Three(a, b, c) => Ok((number_field(a)?, number_field(b)?, number_field(c)?)),
+        _ => Err(Why::Form),
+    }
+}
+
+/// The four numbers that are the fields.
+pub fn four_numbers(fields: Fields<'_>) -> Result<(u64, u64, u64, u64), Why>
+    ensures { (words : List (List ℕ)) → HasFields fields.entry words → result ≡ four_numbers words }
+{
+    match fields {
+        Fields::Four(a, b, c, d) => {
+            Ok((
+                number_field(a)?,
+                number_field(b)?,
+                number_field(c)?,
+                number_field(d)?,
+            ))
+        }
         _ => Err(Why::Form),
     }
 }

@@ -4,14 +4,15 @@
 ghost use Rattle.std.specs.Prelude.{◌≡◌, ◌∷◌, ◌+◌, ◌-◌, ◌++◌, [], length, codes, decimal, flat_map, IfOk, OnOk};
 ghost use Rattle.std.specs.List.{enumerate_from};
 ghost use Rattle.hy_base.specs.Spelling.{line};
-ghost use Rattle.hy_formats.specs.Texts.{ahead_fault_text, check_text, config_fault_text, device_fault_text, dump_text, entry_fault_text, entry_text, judged_text, page_fault_text, point_fault_text, row_text, waiting_text};
+ghost use Rattle.hy_formats.specs.EntryFormat.{isolation_code};
+ghost use Rattle.hy_formats.specs.Texts.{ahead_fault_text, check_text, config_fault_text, device_fault_text, dump_text, entry_fault_text, entry_text, judged_text, page_fault_text, point_fault_text, row_text, shape_words, waiting_text};
 
 use crate::texts::{Word, put_line, put_rows, put_verdict};
-use hy_base::{Entry, EntryKind, Intention, Pos, Row, Shape, Verdict};
+use hy_base::{Entry, EntryKind, Intention, Isolation, Pos, Row, Shape, Verdict, tells_isolation};
 use std::alloc::{AllocError, Global};
 
 fn put_filler(out: &mut Vec<u8>, pos: u64, server: u8) -> Result<(), AllocError>
-    ensures { OnOk result (out.new.items ≡ out.old.items ++ entry_text (pos, EntryKind.Filler server)) }
+    ensures { OnOk result (out.new.items ≡ out.old.items ++ line (codes "entry" ∷ decimal pos ∷ codes "server" ∷ decimal server ∷ codes "filler" ∷ [])) }
 {
     let words = [
         Word::Number(pos),
@@ -22,64 +23,118 @@ fn put_filler(out: &mut Vec<u8>, pos: u64, server: u8) -> Result<(), AllocError>
     put_line(out, b"entry", &words)
 }
 
-fn put_transaction(out: &mut Vec<u8>, pos: u64, intention: &Intention) -> Result<(), AllocError>
-    ensures { OnOk result (out.new.items ≡ out.old.items ++ entry_text (pos, EntryKind.Txn intention.now)) }
+// The number that tells an isolation.
+fn isolation_code(isolation: Isolation) -> u64
+    ensures { result ≡ isolation_code isolation }
 {
-    let words = [
-        Word::Number(pos),
-        Word::Plain(b"server"),
-        Word::Number(intention.server as u64),
-        Word::Plain(b"client"),
-        Word::Number(intention.client as u64),
-        Word::Plain(b"snap"),
-        Word::Number(intention.snap as u64),
-        Word::Plain(b"points"),
-        Word::Number(intention.points.len() as u64),
-        Word::Plain(b"spans"),
-        Word::Number(intention.spans.len() as u64),
-        Word::Plain(b"writes"),
-        Word::Number(intention.writes.len() as u64),
-    ];
-    put_line(out, b"entry", &words)
+    match isolation {
+        Isolation::Serializable => 0,
+        Isolation::Snapshot => 1,
+    }
 }
 
-fn put_entry(out: &mut Vec<u8>, pos: u64, entry: &Entry) -> Result<(), AllocError>
-    ensures { OnOk result (out.new.items ≡ out.old.items ++ entry_text (pos, entry.now)) }
+// From version 2 on its isolation is told too.
+fn put_transaction(
+    out: &mut Vec<u8>,
+    version: u8,
+    pos: u64,
+    intention: &Intention,
+) -> Result<(), AllocError>
+    ensures { OnOk result (out.new.items ≡ out.old.items ++ entry_text version (pos, EntryKind.Txn intention.now)) }
+{
+    if tells_isolation(version) {
+        let words = [
+            Word::Number(pos),
+            Word::Plain(b"server"),
+            Word::Number(intention.server as u64),
+            Word::Plain(b"client"),
+            Word::Number(intention.client as u64),
+            Word::Plain(b"snap"),
+            Word::Number(intention.snap as u64),
+            Word::Plain(b"points"),
+            Word::Number(intention.points.len() as u64),
+            Word::Plain(b"spans"),
+            Word::Number(intention.spans.len() as u64),
+            Word::Plain(b"writes"),
+            Word::Number(intention.writes.len() as u64),
+            Word::Plain(b"iso"),
+            Word::Number(isolation_code(intention.isolation)),
+        ];
+        put_line(out, b"entry", &words)
+    } else {
+        let words = [
+            Word::Number(pos),
+            Word::Plain(b"server"),
+            Word::Number(intention.server as u64),
+            Word::Plain(b"client"),
+            Word::Number(intention.client as u64),
+            Word::Plain(b"snap"),
+            Word::Number(intention.snap as u64),
+            Word::Plain(b"points"),
+            Word::Number(intention.points.len() as u64),
+            Word::Plain(b"spans"),
+            Word::Number(intention.spans.len() as u64),
+            Word::Plain(b"writes"),
+            Word::Number(intention.writes.len() as u64),
+        ];
+        put_line(out, b"entry", &words)
+    }
+}
+
+fn put_entry(out: &mut Vec<u8>, version: u8, pos: u64, entry: &Entry) -> Result<(), AllocError>
+    ensures { OnOk result (out.new.items ≡ out.old.items ++ entry_text version (pos, entry.now)) }
 {
     match entry.kind() {
         EntryKind::Filler { server } => put_filler(out, pos, *server),
-        EntryKind::Txn(intention) => put_transaction(out, pos, intention),
+        EntryKind::Txn(intention) => put_transaction(out, version, pos, intention),
     }
 }
 
 // The entries, from position 1 on.
-fn put_entries(out: &mut Vec<u8>, entries: &[Entry]) -> Result<(), AllocError>
-    ensures { OnOk result (out.new.items ≡ out.old.items ++ flat_map entry_text (enumerate_from 1 entries.now)) }
+fn put_entries(out: &mut Vec<u8>, version: u8, entries: &[Entry]) -> Result<(), AllocError>
+    ensures { OnOk result (out.new.items ≡ out.old.items ++ flat_map (entry_text version) (enumerate_from 1 entries.now)) }
 {
     for (at, entry) in entries.iter().enumerate() {
-        put_entry(out, at as u64 + 1, entry)?;
+        put_entry(out, version, at as u64 + 1, entry)?;
     }
     Ok(())
 }
 
-// How the log is cut, and how many entries it has.
+// How the log is cut, and how many entries it has. A version other than 1 is told too.
 fn put_header(out: &mut Vec<u8>, shape: Shape, count: usize) -> Result<(), AllocError>
-    ensures { OnOk result (out.new.items ≡ out.old.items ++ line (codes "log" ∷ codes "group" ∷ decimal shape.group ∷ codes "window" ∷ decimal shape.window ∷ codes "cap" ∷ decimal shape.cap ∷ codes "entries" ∷ decimal count ∷ [])) }
+    ensures { OnOk result (out.new.items ≡ out.old.items ++ line (codes "log" ∷ shape_words shape ++ codes "entries" ∷ decimal count ∷ [])) }
 {
-    let words = [
-        Word::Plain(b"group"),
-        Word::Number(shape.group as u64),
-        Word::Plain(b"window"),
-        Word::Number(shape.window as u64),
-        Word::Plain(b"cap"),
-        Word::Number(shape.cap as u64),
-        Word::Plain(b"entries"),
-        Word::Number(count as u64),
-    ];
-    put_line(out, b"log", &words)
+    if shape.version == 1 {
+        let words = [
+            Word::Plain(b"group"),
+            Word::Number(shape.group as u64),
+            Word::Plain(b"window"),
+            Word::Number(shape.window as u64),
+            Word::Plain(b"cap"),
+            Word::Number(shape.cap as u64),
+            Word::Plain(b"entries"),
+            Word::Number(count as u64),
+        ];
+        put_line(out, b"log", &words)
+    } else {
+        let words = [
+            Word::Plain(b"group"),
+            Word::Number(shape.group as u64),
+            Word::Plain(b"window"),
+            Word::Number(shape.window as u64),
+            Word::Plain(b"cap"),
+            Word::Number(shape.cap as u64),
+            Word::Plain(b"version"),
+            Word::Number(shape.version as u64),
+            Word::Plain(b"entries"),
+            Word::Number(count as u64),
+        ];
+        put_line(out, b"log", &words)
+    }
 }
 
-/// The text of a log: its shape, and each entry in its line, from position 1 on. Where there is no shape, the device has
+/// The text of a log: its shape, and each entry in its line, from position 1 on. Of a log of version 2 the version is told
+/// behind the shape, and the isolation of each transaction at the end of its line. Where there is no shape, the device has
 /// no header, and the text is `empty`.
 pub fn write_dump(
     alloc: Global,
@@ -93,7 +148,7 @@ pub fn write_dump(
         None => put_line(&mut out, b"empty", &[])?,
         Some(shape) => {
             put_header(&mut out, shape, entries.len())?;
-            put_entries(&mut out, entries)?;
+            put_entries(&mut out, shape.version, entries)?;
         }
     }
     Ok(out)

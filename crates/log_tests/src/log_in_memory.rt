@@ -2,7 +2,8 @@
 ghost use Rattle.std.specs.Prelude.{◌≤◌};
 
 use crate::calls::{
-    PUT, SHAPE, append, arm, close, device, empty_log, front, log_on, look, reads, records, stop,
+    PUT, PUT_2, SHAPE, SHAPE_2, append, arm, close, device, empty_log, front, log_on, look,
+    one_put_2, reads, records, stop,
 };
 use hy_base::{Field, Shape};
 use hy_log::{AppendError, OpenError, PageLog};
@@ -14,6 +15,7 @@ const SMALL: Shape = Shape {
     group: 1,
     window: 1,
     cap: 1,
+    version: 1,
 };
 
 #[test]
@@ -22,6 +24,47 @@ fn one_put_takes_a_header_a_page_and_a_gate(rt: HostRuntime) -> Result<(), Fail>
     assert!(rt; append(&mut log, &PUT) == Some(Ok(1)));
     let wanted = records(0x47, 1);
     assert!(rt; close(log).bytes() == front(&wanted, 513));
+    Ok(())
+}
+
+#[test]
+fn one_put_of_version_2(rt: HostRuntime) -> Result<(), Fail> {
+    let alloc = rt.alloc();
+    let mut log = empty_log(alloc, SHAPE_2)?;
+    assert!(rt; append(&mut log, &PUT_2) == Some(Ok(1)));
+    assert!(rt; reads(alloc, &mut log, 1, &PUT_2));
+    let disk = close(log);
+    let wanted = one_put_2();
+    assert!(rt; disk.bytes() == wanted.as_slice());
+    let other = look(alloc, disk, Some(SHAPE));
+    assert!(rt;
+        other
+            == Err(OpenError::Config {
+                field: Field::Version,
+                log: 2,
+                asked: 1,
+            })
+    );
+    Ok(())
+}
+
+// The most bytes of a body, and one more, in each version.
+#[test]
+fn the_longest_body_goes_by_the_version(rt: HostRuntime) -> Result<(), Fail> {
+    let alloc = rt.alloc();
+    for (shape, size, fits) in [
+        (SHAPE, 18634, true),
+        (SHAPE, 18635, false),
+        (SHAPE_2, 18635, true),
+        (SHAPE_2, 18636, false),
+    ] {
+        let mut log = empty_log(alloc, shape)?;
+        log.room(18689, 4)?;
+        let body = vec![in alloc; b'x'; size]?;
+        let taken = append(&mut log, &body).is_some();
+        drop(log);
+        assert!(rt; taken == fits, "{size} bytes");
+    }
     Ok(())
 }
 

@@ -15,6 +15,15 @@ const SHAPE: Shape = Shape {
     group: 1,
     window: 1,
     cap: 8,
+    version: 1,
+};
+
+// The same in version 2.
+const SHAPE_2: Shape = Shape {
+    group: 1,
+    window: 1,
+    cap: 8,
+    version: 2,
 };
 
 // Whether a page begins with these bytes, and is 0 behind them.
@@ -25,6 +34,7 @@ fn is_padded(page: &[u8], bytes: &[u8]) -> bool {
 #[test]
 fn writes_a_log_of_one_put(rt: HostRuntime) {
     assert!(rt; is_padded(&header_of(SHAPE), b"GHYDERLOG\x01\x01\x01\x08"));
+    assert!(rt; is_padded(&header_of(SHAPE_2), b"GHYDERLOG\x02\x01\x01\x08"));
     let mut rest = [0xff; 256];
     fill_page(&PUT, &mut rest);
     assert!(rt; has_body(&rest, [22, 0, 0, 0], &PUT));
@@ -33,7 +43,7 @@ fn writes_a_log_of_one_put(rt: HostRuntime) {
 // The pages of a body, over what an older record left there.
 fn filled(alloc: Global, body: &[u8]) -> Result<Vec<u8>, AllocError>
     requires some { 1 ≤ length body.now }
-    requires most { length body.now ≤ 18634 }
+    requires most { length body.now ≤ 18635 }
 {
     let mut rest = vec![in alloc; 0xff; 256 * pages_of(body.len())]?;
     fill_page(body, &mut rest);
@@ -52,7 +62,7 @@ fn check_record(
     pages: usize,
     word: [u8; 4],
 ) -> Result<(), Fail> {
-    assert!(rt; len >= 1 && len <= 18634);
+    assert!(rt; len >= 1 && len <= 18635);
     let body = vec![in alloc; b'x'; len]?;
     let rest = filled(alloc, &body)?;
     assert!(rt; pages_of(len) == pages);
@@ -72,6 +82,7 @@ fn records_take_whole_pages(rt: HostRuntime) -> Result<(), Fail> {
         (18427, 72, [251, 71, 0, 0]),
         (18428, 73, [252, 71, 0, 0]),
         (18634, 73, [202, 72, 0, 0]),
+        (18635, 73, [203, 72, 0, 0]),
     ];
     for (len, pages, word) in rows {
         check_record(&rt, rt.alloc(), len, pages, word)?;
@@ -95,13 +106,15 @@ fn read_cut(size: usize) -> Result<Shape, Damage> {
 
 #[test]
 fn headers_are_refused(rt: HostRuntime) {
-    let rows: [(&[(usize, u8)], Damage); 17] = [
+    let rows: [(&[(usize, u8)], Damage); 19] = [
         (&[(0, 0)], Damage::Gate),
         (&[(0, 0x46), (1, 0)], Damage::Gate),
         (&[(1, b'h')], Damage::Magic),
-        (&[(8, b'H'), (9, 2)], Damage::Magic),
+        (&[(8, b'H'), (9, 3)], Damage::Magic),
         (&[(9, 0)], Damage::Version),
-        (&[(9, 2), (10, 9)], Damage::Version),
+        (&[(9, 3), (10, 9)], Damage::Version),
+        (&[(9, 2), (10, 9)], Damage::Shape),
+        (&[(9, 2), (16, 1)], Damage::Fill),
         (&[(10, 0)], Damage::Shape),
         (&[(10, 3)], Damage::Shape),
         (&[(10, 9)], Damage::Shape),
@@ -117,6 +130,7 @@ fn headers_are_refused(rt: HostRuntime) {
     for (changes, why) in rows {
         assert!(rt; read_header(&damaged(changes)) == Err(why));
     }
+    assert!(rt; read_header(&damaged(&[(9, 2)])) == Ok(SHAPE_2));
     for (size, wanted) in [
         (256, Ok(SHAPE)),
         (255, Err(Damage::Short)),

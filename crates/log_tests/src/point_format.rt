@@ -13,6 +13,7 @@ pub const TWO_BY_TWO: Shape = Shape {
     group: 2,
     window: 2,
     cap: 8,
+    version: 1,
 };
 
 /// Groups of one, windows of one.
@@ -20,6 +21,7 @@ pub const ONE_BY_ONE: Shape = Shape {
     group: 1,
     window: 1,
     cap: 8,
+    version: 1,
 };
 
 // A point at position 2 without rows: a commit, and a filler.

@@ -2,7 +2,9 @@
 ghost use Rattle.std.specs.Prelude.{◌≡◌, None};
 
 use crate::entries::{letter, one_write};
-use hy_base::{Clash, Entry, Intention, Items, Row, Shape, Shared, Span, Verdict, Write};
+use hy_base::{
+    Clash, Entry, Intention, Isolation, Items, Row, Shape, Shared, Span, Verdict, Write,
+};
 use hy_text::{memory_line, page_line, write_check, write_dump, write_summary};
 use std::alloc::{AllocError, Global};
 use std::test::Fail;
@@ -19,6 +21,7 @@ fn three_deletes(alloc: Global) -> Result<Entry, Fail> {
     Ok(Entry::transaction(Intention {
         server: 8,
         client: 128,
+        isolation: Isolation::Serializable,
         snap: 7,
         points: Items::from_vec(vec![in alloc; 5]?),
         spans: Items::from_vec(spans),
@@ -37,6 +40,7 @@ const SHAPE: Shape = Shape {
     group: 2,
     window: 3,
     cap: 64,
+    version: 1,
 };
 
 fn three_entries(alloc: Global) -> Result<Vec<Entry>, Fail> {

@@ -5,7 +5,7 @@ use denote.RattleType.{RattleType}
 use denote.Ref.{NamedLft}
 use denote.Hole.{shared_at}
 use denote.Struct.Tuple.{type_at, TupleAt}
-use denote.Param.Send.{IsSend, IsSync, shr_sync, view_send}
+use denote.Param.Send.{IsSend, IsSync, sendable, shr_sync, view_send}
 use denote.Struct.Field.{row_field}
 use denote.Param.SendFields.{as_row_send, declared_send, declared_sync}
 use Rattle.std.proofs.Crossing.{send}
@@ -36,4 +36,4 @@ module _ {ν : Sym} {A B : RattleType} where
 -- a hub may go to another thread where its device may
 pub hub_send : (D B : RattleType) (g : Ghosts D.Denot) (h : SinceGhosts B.Denot) → IsSend D → IsSend B → IsSend (hub_row D B g h)
 hub_send D B g h d b = view_send (hub.the_row D B g h) _ _ _ _ (declared_send (hub.the_type D B g h)
-    (send, (lock.the_send (contents_row D B g h) occurrence_row away_row (ghosts D B g no_dict h no_dict) (contents_send D B g h d b), (places.the_send, (rolls.the_send, tt)))))
+    (send, (lock.the_send (contents_row D B g h) occurrence_row away_row (ghosts D B g no_dict h no_dict) (contents_send D B g h d b), (places.the_send, (rolls.the_send, (search sendable, tt))))))

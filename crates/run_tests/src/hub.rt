@@ -2,13 +2,14 @@
 ghost use Rattle.std.specs.Prelude.{◌≡◌, ◌+◌, ◌<◌, ◌≤◌, All, IfOk, IfSome, IsTrue, length, ℕ, []};
 ghost use Rattle.hy_base.specs.Shape.{IsGoodShape, IsWithin};
 ghost use Rattle.hy_hub.specs.Calls.{IsIdle};
-ghost use Rattle.run_tests.specs.Trial.{IsTrial, IsPutOf, TakesAll};
+ghost use Rattle.run_tests.specs.Trial.{home_at, trial_homes, IsTrial, IsTrialShape, IsPutOf, TakesAll};
 
 use crate::calls::empty;
 use crate::courses::course_of;
 use crate::slow_disk::SlowDisk;
 use hy_base::{
-    Entry, Event, Home, Intention, Phase, Points, Pos, Shape, Spans, Value, Verdict, Write, Writes,
+    Entry, Event, Home, Intention, Isolation, Isolations, Phase, Points, Pos, Shape, Spans, Value,
+    Verdict, Write, Writes,
 };
 use hy_disk::{Disk, Tuned};
 use hy_hist::Pass;
@@ -41,6 +42,29 @@ pub fn open_on<D: Disk + Drop>(alloc: Global, disk: D, shape: Shape) -> Result<P
     Ok(log)
 }
 
+// The home of a client of a server, which has three programs.
+fn home_at(alloc: Global, server: u8) -> Result<Home, AllocError>
+    ensures { IfOk result (λ home. home ≡ home_at server) }
+{
+    let programs = vec![in alloc; Isolation::Serializable; 3]?;
+    Ok(Home {
+        server,
+        programs: Isolations::from_vec(programs),
+    })
+}
+
+fn homes(alloc: Global) -> Result<Vec<Home>, AllocError>
+    ensures { IfOk result (λ homes. homes.items ≡ trial_homes) }
+{
+    let mut homes = Vec::new(alloc);
+    homes.push(home_at(alloc, 1)?)?;
+    homes.push(home_at(alloc, 2)?)?;
+    homes.push(home_at(alloc, 1)?)?;
+    homes.push(home_at(alloc, 1)?)?;
+    homes.push(home_at(alloc, 1)?)?;
+    Ok(homes)
+}
+
 /// A hub of two servers. The second client is at the second, the other four are at the first, and each has three programs.
 pub fn hub_on<D: Disk + Drop, B: Since>(
     alloc: Global,
@@ -50,20 +74,13 @@ pub fn hub_on<D: Disk + Drop, B: Since>(
     requires log { IsGoodShape shape × (log.stopped ≡ None) × (log.batch ≡ []) × (log.bodies ≡ []) × (log.shape ≡ shape) }
     requires untold { IsTrue D.tells → ⊥ }
     requires least { B.least ≡ 0 }
+    requires version { B.version ≡ shape.version }
     ensures trial { IfOk result (λ r. IsTrial r.0 shape r.1) }
     ensures parts { IfOk result (λ r. (r.0.parts ≡ 129) × (r.1.parts ≡ 129)) }
 {
-    let first = Home {
-        server: 1,
-        programs: 3,
-    };
-    let second = Home {
-        server: 2,
-        programs: 3,
-    };
-    let homes = [first, second, first, first, first];
+    let homes = homes(alloc)?;
     let start = Roller::new(alloc, shape)?;
-    match Hub::new(alloc, log, Vec::new(alloc), start, 2, &homes) {
+    match Hub::new(alloc, log, Vec::new(alloc), start, 2, homes) {
         Ok(made) => Ok(made),
         Err(_) => Err(Fail::from(AllocError)),
     }
@@ -71,7 +88,7 @@ pub fn hub_on<D: Disk + Drop, B: Since>(
 
 // Such a hub on a device in memory that tells nothing, so that no clause looks back.
 fn start_on(alloc: Global, shape: Shape, disk: MemDisk) -> Result<Trial<SlowDisk, Brand>, Fail>
-    requires { IsGoodShape shape }
+    requires { IsTrialShape shape }
     ensures trial { IfOk result (λ r. IsTrial r.0 shape r.1) }
     ensures parts { IfOk result (λ r. (r.0.parts ≡ 129) × (r.1.parts ≡ 129)) }
 {
@@ -92,6 +109,7 @@ pub fn put(alloc: Global, client: u8, snap: Pos, byte: u8) -> Option<Entry>
     Some(Entry::transaction(Intention {
         server: if client == 2 { 2 } else { 1 },
         client,
+        isolation: Isolation::Serializable,
         snap,
         points: Points::new(alloc),
         spans: Spans::new(alloc),
@@ -186,18 +204,21 @@ pub const SHAPE: Shape = Shape {
     group: 1,
     window: 1,
     cap: 8,
+    version: 1,
 };
 
 const PAIRS: Shape = Shape {
     group: 2,
     window: 1,
     cap: 8,
+    version: 1,
 };
 
 const FOURS: Shape = Shape {
     group: 4,
     window: 1,
     cap: 8,
+    version: 1,
 };
 
 /// Groups of five.
@@ -205,12 +226,14 @@ pub const FIVES: Shape = Shape {
     group: 5,
     window: 1,
     cap: 10,
+    version: 1,
 };
 
 const SMALL: Shape = Shape {
     group: 1,
     window: 1,
     cap: 1,
+    version: 1,
 };
 
 /// The client's next program begins, and puts a byte.
@@ -248,7 +271,7 @@ struct Bench {
 
 impl Bench {
     fn new(alloc: Global, shape: Shape) -> Result<Bench, Fail>
-        requires { IsGoodShape shape }
+        requires { IsTrialShape shape }
     {
         let (hub, pass) = start_on(alloc, shape, empty(alloc)?)?;
         Ok(Bench {
@@ -261,7 +284,7 @@ impl Bench {
 
     // Its device fails in its k-th write or sync.
     fn failing(alloc: Global, shape: Shape, k: u64) -> Result<Bench, Fail>
-        requires { IsGoodShape shape × (1 ≤ k) × (k < 100) }
+        requires { IsTrialShape shape × (1 ≤ k) × (k < 100) }
     {
         let mut disk = empty(alloc)?;
         disk.arm(OPENING + k);

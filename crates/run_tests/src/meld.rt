@@ -6,7 +6,7 @@ ghost use Rattle.hy_base.specs.Later.{Later};
 ghost use Rattle.hy_meld.specs.Melds.{AreFrom};
 
 use crate::tree::writer;
-use hy_base::{Clash, Intention, Key, Points, Pos, Spans, Steps, Write, Writes};
+use hy_base::{Clash, Intention, Isolation, Key, Points, Pos, Spans, Steps, Write, Writes};
 use hy_mark::Marks;
 use hy_meld::{Melded, apply, meld};
 use hy_tree::{Look, Meter, Tree, View};
@@ -97,6 +97,7 @@ fn marks(alloc: Global, points: &[Key]) -> Result<Marks, Fail>
     let intention = Intention {
         server: 1,
         client: 1,
+        isolation: Isolation::Serializable,
         snap: BASE,
         points: Points::from_vec(Vec::from_slice(alloc, points)?),
         spans: Spans::new(alloc),

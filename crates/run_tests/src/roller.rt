@@ -7,7 +7,8 @@ ghost use Rattle.hy_formats.specs.Checkpoint.{base_behind};
 
 use crate::tree::{value, writer};
 use hy_base::{
-    Clash, Entry, Intention, Key, Points, Pos, Shape, Shared, Span, Spans, Verdict, Write, Writes,
+    Clash, Entry, Intention, Isolation, Key, Points, Pos, Shape, Shared, Span, Spans, Verdict,
+    Write, Writes,
 };
 use hy_pipe::*;
 use hy_roller::*;
@@ -33,6 +34,7 @@ fn transaction(alloc: Global, txn: Txn) -> Result<Entry, Fail> {
     Ok(Entry::transaction(Intention {
         server: 1,
         client: 1,
+        isolation: Isolation::Serializable,
         snap,
         points: Points::new(alloc),
         spans: Spans::from_vec(vec![in alloc; Span { lo, hi }]?),
@@ -85,7 +87,12 @@ fn further<R: Threads + Sync, G: Gate + Sync>(
 fn shape(group: u8, window: u8, cap: Pos) -> Result<Shape, Fail>
     ensures { IfOk result IsGoodShape }
 {
-    let shape = Shape { group, window, cap };
+    let shape = Shape {
+        group,
+        window,
+        cap,
+        version: 1,
+    };
     match shape.check() {
         Ok(()) => Ok(shape),
         Err(_) => Err(Fail::new("the shape is refused")),

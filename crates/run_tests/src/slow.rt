@@ -2,8 +2,8 @@
 //! who wait are woken. A call that isn't woken is told by a limit, and its thread is left behind.
 ghost use Rattle.std.specs.Prelude.{◌≡◌, ◌≤◌, ◌<◌, ◌+◌, length, ℕ};
 ghost use Rattle.std.specs.Arc.{arc_value};
-ghost use Rattle.hy_base.specs.Shape.{IsWithin, IsGoodShape};
-ghost use Rattle.run_tests.specs.Trial.{IsTrial};
+ghost use Rattle.hy_base.specs.Shape.{IsWithin};
+ghost use Rattle.run_tests.specs.Trial.{IsTrial, IsTrialShape};
 
 use crate::calls::empty;
 use crate::hub::{FIVES, OPENING, append, begins, hub_on, open_on, put, put_once};
@@ -136,7 +136,7 @@ struct Crowd {
 
 impl Crowd {
     fn new(alloc: Global, disk: MemDisk, shape: Shape) -> Result<Crowd, Fail>
-        requires { IsGoodShape shape }
+        requires { IsTrialShape shape }
     {
         let signals = Arc::new(alloc, Signals::new())?;
         let slow = SlowDisk::new(disk, Arc::try_clone(&signals)?);
@@ -240,7 +240,7 @@ fn syncs_of<R: Threads + Wait + Clock + Copy + Send + 'static>(
     shape: Shape,
     millis: u64,
 ) -> Result<Option<u64>, Fail>
-    requires { IsGoodShape shape }
+    requires { IsTrialShape shape }
 {
     let mut crowd = Crowd::new(alloc, disk, shape)?;
     let prepared = crowd.prepare(&rt);
@@ -288,6 +288,7 @@ const ONE_PAIR: Shape = Shape {
     group: 2,
     window: 1,
     cap: 2,
+    version: 1,
 };
 
 #[test]

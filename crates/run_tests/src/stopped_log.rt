@@ -11,6 +11,7 @@ fn a_stopped_log_goes_on(rt: HostRuntime) -> Result<(), Fail> {
         group: 2,
         window: 1,
         cap: 8,
+        version: 1,
     };
     let mut log = MemLog::new(alloc, shape)?;
     log.append(&[7; 60], 2)?;

@@ -1,5 +1,7 @@
-use Rattle.std.proofs.Common.{refl, subst, sym}
+use Rattle.std.proofs.Common.{refl, subst, sym, ap, ◌∙◌}
 use Rattle.hy_rules.specs.Runs.{setting_of}
+use Rattle.hy_hub.specs.Trace.{setting_in}
+use Rattle.hy_clients.specs.Passing.{OpensStanding}
 use Rattle.hy_clients.specs.Finished.{IsCutShort}
 use Rattle.hy_disk.specs.Moments.{LeavesSince}
 use Rattle.hy_clients.proofs.Left.{initial_cut}
@@ -19,3 +21,18 @@ returns-in-Err-clause-cut g c =
     let m = c.in-Err.ensures in
     let cut = initial_cut g.D.Disk.tells g.D.Disk.content (LeavesSince g.D.Disk.moment g.D.Disk.left_since g.B.Since.moment g.B.Since.left) c.args.log c.in-Err.log c.args.entries.items c.args.start script.servers (setting_of script).homes script c.requires.opens c.requires.shape m.memory.0 m.memory.1 m.count m.bodies (λ t. back_past c.requires.opens c.requires.shape c.requires.least (m.past t)) in
     subst (IsCutShort g.D.Disk.tells g.D.Disk.content (LeavesSince g.D.Disk.moment g.D.Disk.left_since g.B.Since.moment g.B.Since.left) script c.args.entries.items c.args.start) (sym c.break_off-in-Err.ensures.log) cut
+
+-- the pass of a hub that was just made has seen its opening, which is of the script
+pub run_on-requires-clause-pass : goal.run_on-requires-clause-pass
+run_on-requires-clause-pass g c κs within =
+    let made = c.in-Ok-new.ensures in
+    let seen = made.seen.0 in
+    record {
+      idle = made.hub.1;
+      told = made.told;
+      setting_is = ap setting_in seen ∙ (λ i. record { shape = c.requires.shape i; servers = c.servers.ensures.servers i; homes = c.in-Ok.ensures i });
+      takes = λ s event added fits. c.requires.takes s event added (λ stands. fits (subst OpensStanding (sym seen) stands));
+    }
+
+pub run_on-requires-clause-suits : goal.run_on-requires-clause-suits
+run_on-requires-clause-suits g c κs within = λ s event added takes stands. c.requires.suits s event added takes (subst OpensStanding c.in-Ok-new.ensures.seen.0 stands)

@@ -3,6 +3,7 @@ use Rattle.std.specs.Prelude.{IsTrue}
 use Rattle.hy_disk.specs.Content.{Image}
 use Rattle.std.specs.List.{AllByRecursion}
 use Rattle.std.proofs.lemmas.List.{length-map}
+use Rattle.hy_formats.specs.LogFormat.{IsBody}
 use Rattle.hy_formats.specs.LogDevice.{IsFront, Holds}
 use Rattle.hy_log.specs.declared.batch.BodyBatch.{BodyBatch}
 use Rattle.hy_log.specs.declared.place.BodyPlace.{BodyPlace}
@@ -10,7 +11,7 @@ use Rattle.hy_log.specs.Batches.{IsWaiting, waiting, waiting_at}
 use Rattle.hy_log.specs.Pipelined.{AreLaid}
 use Rattle.hy_log.specs.RecordPlaces.{bodies_at, IsEarlierPlace}
 use Rattle.hy_log.proofs.Appending.{length-bodies_at}
-use Rattle.hy_log.proofs.Batches.{pages_few}
+use Rattle.hy_log.proofs.Batches.{none_sound, pages_few}
 use Rattle.hy_log.proofs.Commits.{is_commit, commit_within, commit_holds, commit_runs, commit_room, commit_same, commit_failed, commit_front, commit_torn, committed_bodies, committed_front, committed_closed, committed_log, committed_laid, laid_before}
 use Rattle.hy_log.proofs.pipelined.PipelinedLog.commit.Goals as goal
 
@@ -100,6 +101,7 @@ invariant_of-self g c =
         fits = inv.log.fits;
         before = inv.log.before;
         waits = c.clear.ensures.waits p.frontier p.frontier inv.log.waits;
+        sound = none_sound p.shape.version p.frontier c.clear.new.self c.clear.ensures.none;
         front = λ told. commit_front put new told (images told) (stays told);
         at_rest = λ told none. absurd cc;
         dropped = λ at is. c.clear.ensures.none;
@@ -108,6 +110,7 @@ invariant_of-self g c =
       within = omega (arith, inv.within, ap length c.clear.ensures.none, ap length c.clear-in_default.ensures.none);
       reserved = omega (arith, inv.reserved, ap length c.clear.ensures.none, ap length c.clear-in_default.ensures.none);
       waits = c.clear-in_default.ensures.waits (p.frontier + p.laid.pages) (p.frontier + c.clear.new.self.pages) inv.waits;
+      sound = none_sound p.shape.version (p.frontier + c.clear.new.self.pages) c.clear-in_default.new.self c.clear-in_default.ensures.none;
       stands = λ told none. absurd cc;
       none_waits = λ at is. c.clear-in_default.ensures.none;
     }
@@ -133,6 +136,7 @@ invariant_of-self-2 g c =
         fits = omega (arith, ap length moved, all, inv.log.fits, pages_few p.frontier p.laid inv.log.waits);
         before = subst (AllByRecursion (IsEarlierPlace page)) (sym moved) (laid_before put);
         waits = subst (IsWaiting page) (sym c.swap.ensures.x_after) inv.waits;
+        sound = subst (λ (b : BodyBatch). AllByRecursion (IsBody p.shape.version) (waiting page b)) (sym c.swap.ensures.x_after) inv.sound;
         front = λ told. subst (λ (ps : List BodyPlace). IsFront p.shape (bodies_at (g.D.Disk.content new).seen ps) page (g.D.Disk.content new).seen) (sym moved) (committed_front put new told (stored told));
         at_rest = λ told none. committed_closed put new told (stored told);
         dropped = λ at is. absurd cc;
@@ -141,6 +145,7 @@ invariant_of-self-2 g c =
       within = omega (arith, ap length moved, all, next, empty, inv.within);
       reserved = omega (arith, ap length moved, all, next, empty, inv.reserved, c.move_to.ensures.capacity);
       waits = subst (IsWaiting (page + c.swap.new.x.pages)) (sym c.swap.ensures.y_after) (c.move_to.ensures.waits p.frontier (page + c.swap.new.x.pages) inv.log.waits);
+      sound = none_sound p.shape.version (page + c.swap.new.x.pages) c.swap.new.y (ap (λ (b : BodyBatch). b.places.items) c.swap.ensures.y_after ∙ c.move_to.ensures.none);
       stands = λ told none. subst (λ (b : BodyBatch). AreLaid page (waiting page b) (g.D.Disk.content new).seen) (sym c.swap.ensures.x_after) (committed_laid put new told (stored told));
       none_waits = λ at is. absurd cc;
     }
