@@ -12,9 +12,11 @@ GATE = 0x47
 MAGIC = b"HYDERLOG"
 U64 = 2**64 - 1
 MOST_CAP = 2147483648
+MOST_HORIZON = 2147483648
 MOST_SOURCE = 16777216
 
-Shape = collections.namedtuple("Shape", "group window cap version", defaults=(1,))
+# The horizon is there from version 3 on, and none before.
+Shape = collections.namedtuple("Shape", "group window cap version horizon", defaults=(1, None))
 # points: ascending keys; spans: ascending (lo, hi); writes: ascending (key, bytes or None); whether it is at Snapshot isolation. A filler has client 0.
 Entry = collections.namedtuple("Entry", "server client snap points spans writes snapshot", defaults=(False,))
 Answer = collections.namedtuple("Answer", "status text log points")
@@ -25,7 +27,18 @@ Program = collections.namedtuple("Program", "commands snapshot", defaults=(False
 
 def is_good(shape):
     return (1 <= shape.group <= 8 and 1 <= shape.window <= 64 and shape.group <= shape.cap <= MOST_CAP and shape.cap % shape.group == 0
-            and 1 <= shape.version <= 2)
+            and 1 <= shape.version <= 3 and is_horizon(shape))
+
+
+def has_horizon(version):
+    return version >= 3
+
+
+def is_horizon(shape):
+    """Whether the horizon is one that a shape of its version may have."""
+    if not has_horizon(shape.version):
+        return shape.horizon is None
+    return shape.horizon is not None and shape.group * shape.window <= shape.horizon <= MOST_HORIZON
 
 
 def tells_isolation(version):
@@ -43,9 +56,16 @@ def base_of(shape, number):
     return shape.group * shape.window * (window - 1) if window >= 1 else 0
 
 
+def line_at(shape, position):
+    """The line at a position: at or below it a deletion is no row any more. It moves at the ends of windows."""
+    size = shape.group * shape.window
+    return max(0, position // size * size - shape.horizon) if shape.horizon is not None else 0
+
+
 def shape_line(shape):
     """The line of a script that asks for a shape."""
-    return b" ".join([b"shape", *(b"%d" % number for number in shape[:3 if shape.version == 1 else 4])])
+    told = {1: 3, 2: 4, 3: 5}[shape.version]
+    return b" ".join([b"shape", *(b"%d" % number for number in shape[:told])])
 
 
 def is_filler(entry):
@@ -173,22 +193,25 @@ class Config(Exception):
 
 def header_of(shape):
     head = bytes([GATE]) + MAGIC + struct.pack("<BBBI", shape.version, shape.group, shape.window, shape.cap)
+    if has_horizon(shape.version):
+        head += struct.pack("<I", shape.horizon)
     return head + bytes(PAGE - len(head))
 
 
 def shape_in(page):
-    return Shape(page[10], page[11], int.from_bytes(page[12:16], "little"), page[9])
+    horizon = int.from_bytes(page[16:20], "little") if has_horizon(page[9]) else None
+    return Shape(page[10], page[11], int.from_bytes(page[12:16], "little"), page[9], horizon)
 
 
 def header_fault(page):
     """Why these 256 bytes behind their gate are no header, or none."""
     if page[1:9] != MAGIC:
         return "magic"
-    if page[9] not in (1, 2):
+    if page[9] not in (1, 2, 3):
         return "version"
     if not is_good(shape_in(page)):
         return "shape"
-    return "fill" if any(page[16:]) else None
+    return "fill" if any(page[20 if has_horizon(page[9]) else 16:]) else None
 
 
 def is_unborn(device):
@@ -326,8 +349,12 @@ def read_point(device, shape):
     rows = []
     for _ in range(count):
         key = reader.field(8, lambda key: bool(rows) and key <= rows[-1][0] and "order")
+        place = reader.at
         writer = reader.field(4, lambda n: not 1 <= n <= base and "writer")
-        rows.append((key, writer, reader.value()))
+        value = reader.value()
+        if value is None and writer <= line_at(shape, base):
+            raise Bad(place, "writer")
+        rows.append((key, writer, value))
     flags = [reader.field(1, lambda n: n > 1 and "flag") == 1 for _ in range(position - base)]
     if reader.at < end:
         raise Bad(reader.at, "long")
@@ -338,6 +365,7 @@ def read_point(device, shape):
 
 # ---- validation, by sets
 
+# For an old one `key` is its snapshot, and there is no `by`.
 Verdict = collections.namedtuple("Verdict", "kind key by")
 COMMIT = Verdict("commit", None, None)
 
@@ -390,6 +418,9 @@ class Fold:
             entry = self.entries[pos - 1]
             if is_filler(entry):
                 continue
+            if self.shape.horizon is not None and start - 1 - entry.snap > self.shape.horizon:
+                self.verdicts[pos] = Verdict("old", entry.snap, None)
+                continue
             early = self.conflicts(entry, entry.snap, base)
             if early:
                 self.verdicts[pos] = Verdict("pre", min(early), max(self.wrote(min(early), entry.snap, base)))
@@ -409,12 +440,14 @@ class Fold:
                 self.commit(self.entries[pos - 1], pos)
 
     def rows(self, position):
-        """Each key with its last committed writer up to a position and that one's value, none for a deletion."""
-        found = []
+        """Each key with its last committed writer up to a position and that one's value, none for a deletion. Deletions at or below the line are left out."""
+        found, line = [], line_at(self.shape, position)
         for key in sorted(self.writers):
             upto = [row for row in self.writers[key] if row[0] <= position]
             if upto:
-                found.append((key, *max(upto, key=lambda row: row[0])))
+                writer, value = max(upto, key=lambda row: row[0])
+                if value is not None or writer > line:
+                    found.append((key, writer, value))
         return found
 
     def live(self, position):
@@ -551,8 +584,11 @@ class ScriptReader:
             raise Refused(number, "word")
         words = line.split(b" ")[1:]
         kinds = WORDS[word]
-        if word == b"shape" and len(words) == 4:
-            kinds = "nnnn"
+        if word == b"shape":
+            kinds = {4: "nnnn", 5: "nnnnn"}.get(len(words), kinds)
+            # Six words exactly where the fourth is the third version's.
+            if len(words) in (4, 5) and (len(words) == 5) != (words[3] == b"3"):
+                raise Refused(number, "form")
         snapshot = word == b"begin" and words == [b"snapshot"]
         if snapshot:
             words = []
@@ -750,6 +786,8 @@ def lines_text(lines):
 def verdict_line(position, verdict):
     if verdict.kind == "commit":
         return b"at %d commit" % position
+    if verdict.kind == "old":
+        return b"at %d abort old %d" % (position, verdict.key)
     return b"at %d abort %s %d by %d" % (position, verdict.kind.encode(), verdict.key, verdict.by)
 
 
@@ -790,6 +828,8 @@ def dump_text(shape, entries):
         return b"empty\n"
     told = tells_isolation(shape.version)
     version = b" version %d" % shape.version if told else b""
+    if shape.horizon is not None:
+        version += b" horizon %d" % shape.horizon
     lines = [b"log group %d window %d cap %d%s entries %d" % (*shape[:3], version, len(entries))]
     for position, entry in enumerate(entries, 1):
         if is_filler(entry):

@@ -1,8 +1,11 @@
 //! The core.
-ghost use Rattle.std.specs.Prelude.{◌≡◌, ◌⊎◌, ℕ, length, true, false, None, Err, IfOk, OnOk, OnErr, IsErrOf};
+ghost use Rattle.std.specs.Prelude.{◌≡◌, ◌⊎◌, ◌/◌, ◌%◌, ℕ, length, true, false, None, Err, IfOk, OnOk, OnErr, IsErrOf};
 ghost use Rattle.hy_base.specs.Limits.{IsThreadCount};
 ghost use Rattle.hy_rules.specs.Moves.{board_of, is_declared};
 ghost use Rattle.hy_rules.specs.Summary.{reads_in};
+ghost use Rattle.hy_base.specs.Rows.{Agrees};
+ghost use Rattle.hy_base.specs.Shape.{line_after};
+ghost use Rattle.hy_rules.specs.History.{live_rows};
 ghost use Rattle.hy_rules.specs.Validation.{rows, verdicts};
 ghost use Rattle.hy_rules.specs.Runs.{setting_of, step, next_event, is_finished, results_at};
 ghost use Rattle.hy_core.specs.Course.{Course, IsReached, Advances, Breaks, Follows, FollowsSome, IsRefusedAt, Extends, Completes, opened_course};
@@ -227,11 +230,14 @@ impl Core {
         self.parts.log.as_slice()
     }
 
-    /// The position up to which a server has published, and the rows there, lent.
+    /// The position up to which a server has published, and the rows there, lent: all of them, and within a window perhaps
+    /// tombstones at or below the line besides; at a window's end just these rows.
     pub fn board(&self, server: u8) -> (Pos, &Tree)
         requires declared { is_declared (setting_of self.now.script) server ≡ true }
         ensures at { result.0 ≡ board_of self.now.state server }
-        ensures rows { result.1.now ≡ rows self.now.script.shape self.now.state.log (board_of self.now.state server) }
+        ensures rows { Agrees (line_after self.now.script.shape (board_of self.now.state server / self.now.script.shape.group)) result.1.now (rows self.now.script.shape self.now.state.log (board_of self.now.state server)) }
+        ensures window_end { (board_of self.now.state server / self.now.script.shape.group) % self.now.script.shape.window ≡ 0 → result.1.now ≡ rows self.now.script.shape self.now.state.log (board_of self.now.state server) }
+        ensures live { live_rows result.1.now ≡ live_rows (rows self.now.script.shape self.now.state.log (board_of self.now.state server)) }
     {
         // The shape of a script is good.
         let _shape = self.script.shape();

@@ -65,6 +65,8 @@ script_good seed size least few = record {
     cap = record { at_least = omega (arith, least); at_most = omega (arith, few) };
     whole_groups = omega arith;
     version = record { at_least = omega arith; at_most = omega arith };
+    horizon = tt;
+    versioned = refl;
   };
   servers = record { at_least = omega arith; at_most = omega arith };
   clients = All-map (IsClient 4) (client_of seed size) (range_with_len 1 8) (All-range (λ number. IsClient 4 (client_of seed size number)) 1 8 (λ number from upto. client_good seed size number few from (omega (arith, upto))));

@@ -1,5 +1,5 @@
 -- The script of a load: eight clients on four servers, whose programs add to numbers, look at them, and put values beside them.
-use Rattle.std.specs.Prelude.{ℕ, ◌+◌, ◌-◌, ◌*◌, ◌/◌, ◌%◌, List, [], ◌∷◌, map, decimal, ◌==◌, if◌then◌else◌}
+use Rattle.std.specs.Prelude.{ℕ, ◌+◌, ◌-◌, ◌*◌, ◌/◌, ◌%◌, List, [], ◌∷◌, map, decimal, ◌==◌, if◌then◌else◌, None}
 use Rattle.std.specs.List.{range_with_len}
 use Rattle.hy_base.specs.declared.layout.Shape.{Shape}
 use Rattle.hy_base.specs.declared.record.Isolation.TheVariants.{Serializable}
@@ -42,7 +42,7 @@ abbrev pub client_of : ℕ → ℕ → ℕ → Client
 client_of seed size number = record { server = home number; programs = programs_of seed size number }
 
 abbrev pub shape_for : ℕ → Shape
-shape_for size = record { group = 4; window = 4; cap = 8 * size; version = 1 }
+shape_for size = record { group = 4; window = 4; cap = 8 * size; version = 1; horizon = None }
 
 abbrev pub script_of : ℕ → ℕ → Workload
 script_of seed size = record { shape = shape_for size; servers = 4; clients = map (client_of seed size) (range_with_len 1 8) }

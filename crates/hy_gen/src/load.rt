@@ -38,6 +38,7 @@ pub fn generate(alloc: Global, seed: u64, size: u32) -> Result<Load, AllocError>
         window: 4,
         cap: 8 * size,
         version: 1,
+        horizon: None,
     };
     let script = Script::new(shape, SERVERS, clients(alloc, seed, size)?);
     let readers = readers(alloc, seed, size)?;

@@ -1,21 +1,23 @@
 //! The roller.
 ghost use Rattle.std.specs.Prelude.{◌≡◌, ◌+◌, ◌-◌, ◌*◌, ◌%◌, ◌<◌, ◌≤◌, length, IfOk, Some, replicate};
 ghost use Rattle.hy_base.specs.Lists.{nth};
-ghost use Rattle.hy_base.specs.Shape.{IsGoodShape, IsWithin, kept_groups};
-ghost use Rattle.hy_base.specs.Rows.{Each};
+ghost use Rattle.hy_base.specs.Shape.{IsGoodShape, IsWithin, kept_groups, before_horizon, line_after};
+ghost use Rattle.hy_base.specs.Rows.{Each, purged, Agrees};
 ghost use Rattle.hy_base.specs.Verdicts.{is_commit};
+ghost use Rattle.hy_rules.specs.History.{live_rows, pairs_of};
 ghost use Rattle.hy_formats.specs.Checkpoint.{base_behind};
-ghost use Rattle.hy_rolling.specs.Rolling.{IsRolled, new_roll, resumed, rolled_upto, next_base};
+ghost use Rattle.hy_rolling.specs.Rolling.{IsRolled, IsTreeOf, new_roll, resumed, rolled_upto, next_base};
 ghost use Rattle.hy_roller.specs.Telling.{told, kept_verdict, outcome_by, rolled_to};
 ghost use Rattle.hy_roller.specs.RollerLaws.{IsRoller};
 
 use crate::ended::ProgramEnd;
-use crate::resuming::committed_on;
+use crate::resuming::{committed_on, purge_uncounted};
 use crate::verdicts::Blocks;
 use hy_base::{Entry, Items, Outcome, Pos, Shape, Shared, Verdict, Verdicts, both};
 use hy_tree::Tree;
 use std::alloc::{AllocError, Global};
-use std::marker::Model;
+use std::marker::{Brand, Model};
+use std::sync::ledger::Blank;
 
 /// What the first whole groups of a log decide.
 #[derive(Drop)]
@@ -25,6 +27,7 @@ pub struct Roller {
     // past it.
     from: Pos,
     groups: u32,
+    // It is seen as its rows. Tombstones at or below the line may have come back to it within a window.
     tree: Tree,
     base_tree: Tree,
     kept: Tree,
@@ -37,15 +40,16 @@ type Flags = Items<bool>;
 
 impl Model for Roller {
     ghost use Rattle.std.specs.Prelude.{◌≡◌, ◌+◌, ◌-◌, ◌*◌, ◌≤◌, length};
-    ghost use Rattle.hy_base.specs.Shape.{IsGoodShape, base_groups};
-    ghost use Rattle.hy_rolling.specs.Rolling.{Roll, IsRolled};
+    ghost use Rattle.hy_base.specs.Shape.{IsGoodShape, base_groups, line_after};
+    ghost use Rattle.hy_base.specs.Rows.{purged};
+    ghost use Rattle.hy_rolling.specs.Rolling.{Roll, IsRolled, IsTreeOf};
     ghost use Rattle.hy_roller.specs.Telling.{flags_past};
 
     ghost Value = { Roll };
 
-    ghost view = { λ r. record { shape = r.shape; from = r.from; rolled = record { groups = r.groups; tree = r.tree; base_tree = r.base_tree; kept = r.kept; verdicts = r.verdicts }; commits = flags_past r.shape r.groups r.from r.flags r.verdicts } };
+    ghost view = { λ r. record { shape = r.shape; from = r.from; rolled = record { groups = r.groups; tree = purged (line_after r.shape r.groups) r.tree; base_tree = r.base_tree; kept = r.kept; verdicts = r.verdicts }; commits = flags_past r.shape r.groups r.from r.flags r.verdicts } };
 
-    ghost invariant = { λ r. IsGoodShape r.shape × (r.shape.group * r.groups ≤ r.shape.cap) × (r.from + length r.verdicts ≡ r.shape.group * r.groups) × (length r.flags ≤ r.from) × (r.from - length r.flags ≤ r.shape.group * base_groups r.shape r.groups) × IsRolled r.shape (record { groups = r.groups; tree = r.tree; base_tree = r.base_tree; kept = r.kept; verdicts = r.verdicts }) };
+    ghost invariant = { λ r. IsGoodShape r.shape × (r.shape.group * r.groups ≤ r.shape.cap) × (r.from + length r.verdicts ≡ r.shape.group * r.groups) × (length r.flags ≤ r.from) × (r.from - length r.flags ≤ r.shape.group * base_groups r.shape r.groups) × IsRolled r.shape (record { groups = r.groups; tree = purged (line_after r.shape r.groups) r.tree; base_tree = r.base_tree; kept = r.kept; verdicts = r.verdicts }) × IsTreeOf r.shape (record { groups = r.groups; tree = purged (line_after r.shape r.groups) r.tree; base_tree = r.base_tree; kept = r.kept; verdicts = r.verdicts }) r.tree };
 }
 
 /// What a roller tells of a position.
@@ -65,7 +69,10 @@ fn is_commit(verdict: Option<Verdict>) -> bool
     match verdict {
         None => false,
         Some(Verdict::Commit) => true,
-        Some(Verdict::Pre(_)) | Some(Verdict::Mate(_)) | Some(Verdict::Final(_)) => false,
+        Some(Verdict::Old { .. })
+        | Some(Verdict::Pre(_))
+        | Some(Verdict::Mate(_))
+        | Some(Verdict::Final(_)) => false,
     }
 }
 
@@ -100,7 +107,8 @@ impl Roller {
     }
 
     /// At the end `pos` of some whole groups, from the rows at the premeld base of the next group, the entries past that base
-    /// up to `pos`, and which of these committed. It keeps verdicts past `pos` alone. `AllocError` where memory runs out.
+    /// up to `pos`, and which of these committed. Of these rows none is a tombstone at or below the line there (`left`). It
+    /// purges at the end of the last window, and keeps verdicts past `pos` alone. `AllocError` where memory runs out.
     pub fn resume(
         alloc: Global,
         shape: Shape,
@@ -115,6 +123,7 @@ impl Roller {
         requires entries { base_behind shape pos + length entries.now ≡ pos }
         requires flags { length committed.now ≡ length entries.now }
         requires rows { Each (λ r. IsWithin 1 (base_behind shape pos) r.writer) base_tree }
+        requires left { Agrees (before_horizon shape.horizon (base_behind shape pos)) base_tree base_tree }
         ensures { IfOk result (λ r. r ≡ resumed shape pos base_tree entries.now committed.now) }
     {
         let groups = pos / u32::from(shape.group);
@@ -123,7 +132,9 @@ impl Roller {
         let before = (start - base) as usize;
         let (early, late) = entries.split_at(before);
         let (early_flags, late_flags) = committed.split_at(before);
-        let kept = committed_on(alloc, &base_tree, early, early_flags, base)?;
+        let line = shape.line(groups);
+        let grown = committed_on(alloc, &base_tree, early, early_flags, base)?;
+        let kept = purge_uncounted::<Brand>(alloc, &grown, line, Blank::new(1))?;
         let tree = committed_on(alloc, &kept, late, late_flags, start)?;
         let flags = Flags::from_vec(Vec::from_slice(alloc, committed)?);
         let shared = Shared::new(alloc, flags);
@@ -161,9 +172,11 @@ impl Roller {
         self.groups * u32::from(self.shape.group)
     }
 
-    /// The rows there, lent.
+    /// The rows there, lent: all of them, and within a window perhaps tombstones at or below the line besides.
     pub fn tree(&self) -> &Tree
-        ensures { result.now ≡ self.now.rolled.tree }
+        ensures agrees { IsTreeOf self.now.shape self.now.rolled result.now }
+        ensures live { live_rows result.now ≡ live_rows self.now.rolled.tree }
+        ensures pairs { pairs_of result.now ≡ pairs_of self.now.rolled.tree }
     {
         &self.tree
     }
@@ -268,9 +281,9 @@ impl Roller {
         flags[flags.len() - 1 - (self.from - pos) as usize]
     }
 
-    /// Further by some groups, which were rolled: `groups` are rolled then, the rows then are `tree`, those at the premeld base of
-    /// the next group `base_tree`, and those before its window `kept`. `verdicts` are those of the new groups. `AllocError` where
-    /// memory runs out.
+    /// Further by some groups, which were rolled: `groups` are rolled then, the rows then are read from `tree` (`held`), those
+    /// at the premeld base of the next group are `base_tree`, and those before its window `kept`. `verdicts` are those of the
+    /// new groups. `AllocError` where memory runs out.
     pub fn rolled_to(
         &self,
         alloc: Global,
@@ -283,8 +296,9 @@ impl Roller {
         requires onward { self.now.rolled.groups ≤ groups }
         requires room { self.now.shape.group * groups ≤ self.now.shape.cap }
         requires counted { rolled_upto self.now + length verdicts ≡ self.now.shape.group * groups }
-        requires rolled { IsRolled self.now.shape (record { groups = groups; tree = tree; base_tree = base_tree; kept = kept; verdicts = verdicts }) }
-        ensures { IfOk result (λ r. r ≡ rolled_to self.now (record { groups = groups; tree = tree; base_tree = base_tree; kept = kept; verdicts = verdicts })) }
+        requires rolled { IsRolled self.now.shape (record { groups = groups; tree = purged (line_after self.now.shape groups) tree; base_tree = base_tree; kept = kept; verdicts = verdicts }) }
+        requires held { IsTreeOf self.now.shape (record { groups = groups; tree = purged (line_after self.now.shape groups) tree; base_tree = base_tree; kept = kept; verdicts = verdicts }) tree }
+        ensures { IfOk result (λ r. r ≡ rolled_to self.now (record { groups = groups; tree = purged (line_after self.now.shape groups) tree; base_tree = base_tree; kept = kept; verdicts = verdicts })) }
     {
         let flags = self.flags.share();
         let more = self.verdicts.with(alloc, verdicts);

@@ -1,14 +1,14 @@
 -- What the forms with one first word make of fields.
 use Rattle.std.proofs.Common.{arith, ◌≡◌, sym, ℕ, ◌<◌, ◌≤◌, get_or, Bool, true, false, ◌||◌, List, [], ◌∷◌, length, refl, ap, ◌∙◌, if◌then◌else◌}
 use Rattle.std.specs.Prelude.{Option, Some, None, option_and_then, Result, Ok, Err, IsErrAnd, ok_or}
-use Rattle.std.specs.List.{list_any}
+use Rattle.std.specs.List.{AllByRecursion, list_any}
 use Rattle.std.specs.Option.{option_map_or}
 use Rattle.std.proofs.lemmas.Bool.{ne_eqb}
 use Prim.Native.String.{String}
 use Rattle.hy_base.specs.Script.{Workload}
 use Rattle.hy_script.specs.Grammar.{event_forms, makes_if, publish, stop}
 use Rattle.hy_base.specs.Spelling.{Text, number_of}
-use Rattle.hy_script.specs.Forms.{Meaning, LineForm, Alone, OneNumber, TwoNumbers, ThreeNumbers, NumberAndText, judged_words, read_line, read_fields, meaning_of, has_form, is_blank}
+use Rattle.hy_script.specs.Forms.{Meaning, LineForm, Alone, OneNumber, TwoNumbers, ThreeNumbers, NumberAndText, judged_words, read_line, read_fields, meaning_of, has_form, form_with, is_blank}
 use Rattle.hy_script.specs.Fields.{HasFields, HasWords, and_then, in_range, one_number, two_numbers, three_numbers, number_and_text, no_fields}
 use Rattle.hy_base.specs.Shape.{is_within}
 use Rattle.hy_base.specs.declared.workload.Event.{Event}
@@ -31,26 +31,37 @@ one_field : {T : Type 0} (t : Bool) (meaning : ℕ → Meaning T) (found : Optio
 one_field true meaning found = refl
 one_field false meaning found = found_one found meaning
 
-by_count : {T : Type 0} (s e : Bool) (form : LineForm T) (fields : List Text) → e ≡ false
-    → (if s then Err Form else elim (if e then Some form else None) [ None ↦ Err Form | Some f ↦ option_map_or (λ m. judged_words m) (meaning_of f fields) (Err Number) ]) ≡ Err Form
-by_count true e form fields not = refl
-by_count false true form fields not = cc
-by_count false false form fields not = refl
+-- what fields make once their form is found
+found_by : {T : Type 0} (s : Bool) (found : Option (LineForm T)) (form : LineForm T) (fields : List Text) → found ≡ Some form
+    → (if s then Err Form else elim found [ None ↦ Err Form | Some f ↦ option_map_or (λ m. judged_words m) (meaning_of f fields) (Err Number) ])
+    ≡ (if s then Err Form else option_map_or (λ m. judged_words m) (meaning_of form fields) (Err Number))
+found_by s None form fields is = cc
+found_by s (Some f) form fields is =
+    let same : f ≡ form = cc is in ap (λ g. if s then Err Form else option_map_or (λ m. judged_words m) (meaning_of g fields) (Err Number)) same
 
--- the fields are of another form
+found_none : {T : Type 0} (s : Bool) (found : Option (LineForm T)) (fields : List Text) → found ≡ None
+    → (if s then Err Form else elim found [ None ↦ Err Form | Some f ↦ option_map_or (λ m. judged_words m) (meaning_of f fields) (Err Number) ]) ≡ Err Form
+found_none true found fields none = refl
+found_none false None fields none = refl
+found_none false (Some f) fields none = cc
+
+pub reads_by : {T : Type 0} (forms : List (LineForm T)) (form : LineForm T) (fields : List Text) → form_with fields forms ≡ Some form
+    → read_fields forms fields ≡ (if list_any is_blank fields then Err Form else option_map_or (λ m. judged_words m) (meaning_of form fields) (Err Number))
+reads_by forms form fields is = found_by (list_any is_blank fields) (form_with fields forms) form fields is
+
+-- the fields are of none of these forms
+abbrev pub AreOfNone : {T : Type 0} → List (LineForm T) → List Text → Type 0
+AreOfNone forms fields = AllByRecursion (λ form. has_form form fields ≡ false) forms
+
+none_with : {T : Type 0} (forms : List (LineForm T)) (fields : List Text) → AreOfNone forms fields → form_with fields forms ≡ None
+none_with [] fields none = refl
+none_with (form ∷ forms) fields none = ap (λ t. if t then Some form else form_with fields forms) none.0 ∙ none_with forms fields none.1
+
+pub no_form : {T : Type 0} (forms : List (LineForm T)) (fields : List Text) → AreOfNone forms fields → read_fields forms fields ≡ Err Form
+no_form forms fields none = found_none (list_any is_blank fields) (form_with fields forms) fields (none_with forms fields none)
+
 pub other_count : {T : Type 0} (form : LineForm T) (fields : List Text) → has_form form fields ≡ false → read_fields (form ∷ []) fields ≡ Err Form
-other_count form fields not = by_count (list_any is_blank fields) (has_form form fields) form fields not
-
-by_counts : {T : Type 0} (s d e : Bool) (form second : LineForm T) (fields : List Text) → d ≡ false → e ≡ false
-    → (if s then Err Form else elim (if d then Some form else if e then Some second else None) [ None ↦ Err Form | Some f ↦ option_map_or (λ m. judged_words m) (meaning_of f fields) (Err Number) ]) ≡ Err Form
-by_counts true d e form second fields a b = refl
-by_counts false true e form second fields a b = cc
-by_counts false false true form second fields a b = cc
-by_counts false false false form second fields a b = refl
-
--- of neither of two
-pub other_counts : {T : Type 0} (form second : LineForm T) (fields : List Text) → has_form form fields ≡ false → has_form second fields ≡ false → read_fields (form ∷ second ∷ []) fields ≡ Err Form
-other_counts form second fields a b = by_counts (list_any is_blank fields) (has_form form fields) (has_form second fields) form second fields a b
+other_count form fields not = no_form (form ∷ []) fields (not, tt)
 
 pub read_one : {T : Type 0} (name : String) (meaning : ℕ → Meaning T) (fields : List Text)
     → read_fields (OneNumber name meaning ∷ []) fields ≡ and_then (one_number fields) (λ n. judged_words (meaning n))

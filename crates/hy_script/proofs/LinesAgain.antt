@@ -1,7 +1,9 @@
 -- The words of a spelled line are read as what they spell.
-use Rattle.std.proofs.Common.{arith, sym, eqb-true, lt-ltb, ◌≡◌, ℕ, ◌<◌, ◌≤◌, ◌^◌, ◌%◌, ◌==◌, Bool, true, false, ◌&&◌, [], ◌∷◌, length, refl, ap, ◌∙◌, if◌then◌else◌, nat_lt, nat_le}
-use Rattle.std.specs.Prelude.{Result, Ok, Err, ok_or, codes, decimal}
-use Rattle.std.proofs.lemmas.Bool.{and_from, le-leb, ne_eqb, eq-eqb}
+use Rattle.std.proofs.Common.{arith, lt-ltb, ◌≡◌, ℕ, ◌<◌, ◌≤◌, ◌^◌, ◌==◌, Bool, true, false, ◌&&◌, [], ◌∷◌, length, refl, ap, zero, suc, ◌*◌, ◌∙◌, if◌then◌else◌, nat_lt, nat_le}
+use Rattle.std.specs.Fmt.{digits}
+use Rattle.std.specs.Prelude.{Option, Some, None, IfSome, Result, Ok, Err, is_ok, ok_or, codes, decimal}
+use Rattle.std.specs.Option.{is_some}
+use Rattle.std.proofs.lemmas.Bool.{le-leb, ne_eqb}
 use Rattle.std.proofs.lemmas.Fmt.{decimal_nonempty}
 use Rattle.hy_base.specs.declared.layout.Shape.{Shape}
 use Rattle.hy_base.specs.declared.record.Isolation.{Isolation}
@@ -10,16 +12,17 @@ use Rattle.hy_base.specs.declared.workload.Command.{Command}
 use Rattle.hy_base.specs.declared.workload.Command.TheVariants.{Get, Put, Del, Add, Scan}
 use Rattle.hy_base.specs.Entry.{is_told}
 use Rattle.hy_base.specs.Script.{Workload, IsCommand, client_count}
-use Rattle.hy_base.specs.Shape.{newest_version, IsWithin, IsGoodShape, is_within}
+use Rattle.hy_base.specs.Shape.{newest_version, has_horizon, shape_fault, IsWithin, IsGoodShape, is_within}
 use Rattle.hy_base.specs.Spelling.{Text}
 use Rattle.hy_base.specs.Value.{is_value}
 use Rattle.hy_base.proofs.ShapeLemmas.{IsWithin-test}
 use Rattle.hy_script.specs.Fields.{and_then, number_field, one_number, two_numbers, three_numbers, four_numbers, number_and_text}
 use Rattle.hy_script.specs.Forms.{is_blank}
-use Rattle.hy_script.specs.Grammar.{is_shape, is_versioned, shape_where, last_program_count}
+use Rattle.hy_script.specs.Grammar.{last_program_count}
 use Rattle.hy_script.specs.ScriptLaws.{FitsFields}
-use Rattle.hy_script.specs.ScriptFields.{listing_line, number_within, one_more, program_line, servers_line, shape_line, shape_numbers}
-use Rattle.hy_script.specs.ScriptSpelling.{command_words, isolation_fields, spelled_shape}
+use Rattle.hy_script.specs.ScriptFields.{listing_line, number_within, one_more, program_line, servers_line, shape_line, shape_numbers, good_shape}
+use Rattle.hy_script.specs.ScriptSpelling.{command_words, horizon_fields, isolation_fields, spelled_shape, version_fields}
+use Rattle.hy_script.specs.declared.script.ToldShape.{ToldShape}
 use Rattle.hy_script.specs.declared.script.ListingLine.{ListingLine}
 use Rattle.hy_script.specs.declared.script.ListingLine.TheVariants.{Client, Begin, Schedule}
 use Rattle.hy_script.specs.declared.script.ProgramLine.TheVariants.{Next}
@@ -27,6 +30,7 @@ use Rattle.hy_script.specs.declared.why.Why.{Why}
 use Rattle.hy_script.specs.declared.why.Why.TheVariants.{Number, Value, Range, Order, Count}
 use Rattle.hy_base.proofs.NumberLemmas.{number_of_decimal}
 use Rattle.hy_base.specs.Limits.{IsServerNumber}
+use Rattle.hy_script.proofs.ShapeLines.{good_passes}
 
 -- fields
 
@@ -58,29 +62,37 @@ if_so false x y e = cc
 
 -- lines
 
-shape_is : (shape : Shape) → IsGoodShape shape → is_shape shape.group shape.window shape.cap ≡ true
-shape_is shape good =
-    (and_from (is_within 1 8 shape.group) _ (IsWithin-test 1 8 shape.group good.group)
-    (and_from (is_within 1 64 shape.window) _ (IsWithin-test 1 64 shape.window good.window)
-    (and_from (is_within shape.group 2147483648 shape.cap) (shape.cap % shape.group == 0) (IsWithin-test shape.group 2147483648 shape.cap good.cap) (eq-eqb (shape.cap % shape.group) 0 good.whole_groups))))
-
 pub four_again : (k l m n : ℕ) → k < 2 ^ 64 → l < 2 ^ 64 → m < 2 ^ 64 → n < 2 ^ 64 → four_numbers (decimal k ∷ decimal l ∷ decimal m ∷ decimal n ∷ []) ≡ Ok (k, l, m, n)
 four_again k l m n a b c d = rw (some k a, some l b, some m c, some n d, field_again k a, field_again l b, field_again m c, field_again n d) refl
 
-numbers_by : (t : Bool) (shape : Shape) → (shape.version == 1) ≡ t → IsGoodShape shape
-    → shape_numbers (decimal shape.group ∷ decimal shape.window ∷ decimal shape.cap ∷ (if t then [] else decimal shape.version ∷ [])) ≡ Ok (shape.group, shape.window, shape.cap, shape.version)
-numbers_by true shape first good =
-    ap {B = Result (ℕ × ℕ × ℕ × ℕ) Why} (λ read. and_then {B = ℕ × ℕ × ℕ × ℕ} read (λ p. Ok (p.0, p.1, p.2, 1)))
-    (three_again shape.group shape.window shape.cap (omega (arith, good.group.at_most)) (omega (arith, good.window.at_most)) (omega (arith, good.cap.at_most)))
-    ∙ ap {B = Result (ℕ × ℕ × ℕ × ℕ) Why} (λ v. Ok (shape.group, shape.window, shape.cap, v)) (sym (eqb-true shape.version 1 first))
-numbers_by false shape later good =
-    four_again shape.group shape.window shape.cap shape.version (omega (arith, good.group.at_most)) (omega (arith, good.window.at_most)) (omega (arith, good.cap.at_most)) (omega (arith, good.version.at_most))
+abbrev told_of : ℕ → ℕ → ℕ → ℕ → Option ℕ → ToldShape
+told_of group window cap version horizon = record { group = group; window = window; cap = cap; version = version; horizon = horizon }
+
+-- the numbers of a shape, by its version
+module _ (group window cap low : ℕ) (a : group < 2 ^ 64) (b : window < 2 ^ 64) (c : cap < 2 ^ 64) where
+  numbers_by : (version : ℕ) (horizon : Option ℕ) → IsWithin 1 newest_version version → IfSome horizon (IsWithin low 2147483648) → is_some horizon ≡ has_horizon version
+      → shape_numbers (decimal group ∷ decimal window ∷ decimal cap ∷ (if version == 1 then [] else decimal version ∷ horizon_fields horizon)) ≡ Ok (told_of group window cap version horizon)
+  unfolding digits
+  numbers_by zero horizon version within there = absurd (omega (arith, version.at_least))
+  numbers_by (suc zero) None version within there = ap {B = Result ToldShape Why} (λ read. and_then read (λ p. Ok (told_of p.0 p.1 p.2 1 None))) (three_again group window cap a b c)
+  numbers_by (suc zero) (Some h) version within there = cc
+  numbers_by (suc (suc zero)) None version within there = ap {B = Result ToldShape Why} (λ read. and_then read (λ p. Ok (told_of p.0 p.1 p.2 p.3 None))) (four_again group window cap 2 a b c (omega arith))
+  numbers_by (suc (suc zero)) (Some h) version within there = cc
+  numbers_by (suc (suc (suc zero))) None version within there = cc
+  numbers_by (suc (suc (suc zero))) (Some h) version within there =
+      ap {B = Result ToldShape Why} (λ read. and_then read (λ p. Ok (told_of p.0 p.1 p.2 3 (Some p.3)))) (four_again group window cap h a b c (omega (arith, within.at_most)))
+  numbers_by (suc (suc (suc (suc n)))) horizon version within there = absurd (omega (arith, version.at_most))
+
+numbers_again : (shape : Shape) → IsGoodShape shape
+    → shape_numbers (decimal shape.group ∷ decimal shape.window ∷ decimal shape.cap ∷ version_fields shape) ≡ Ok (told_of shape.group shape.window shape.cap shape.version shape.horizon)
+numbers_again shape good =
+    numbers_by shape.group shape.window shape.cap (shape.group * shape.window) (omega (arith, good.group.at_most)) (omega (arith, good.window.at_most)) (omega (arith, good.cap.at_most))
+    shape.version shape.horizon good.version good.horizon good.versioned
 
 pub shape_again : (shape : Shape) → IsGoodShape shape → shape_line (spelled_shape shape) ≡ Ok shape
 shape_again shape good =
-    ap (λ read. and_then read (λ p. shape_where p.0 p.1 p.2 p.3)) (numbers_by (shape.version == 1) shape refl good)
-    ∙ if_so (is_versioned shape.group shape.window shape.cap shape.version) (Ok shape) (Err Range)
-    (and_from (is_shape shape.group shape.window shape.cap) (is_within 1 newest_version shape.version) (shape_is shape good) (IsWithin-test 1 newest_version shape.version good.version))
+    ap (λ read. and_then read (λ t. ok_or (good_shape t) Range)) (numbers_again shape good)
+    ∙ ap (λ found. ok_or found Range) (if_so (is_ok (shape_fault shape)) (Some shape) None (good_passes shape good))
 
 within_again : (low high n : ℕ) → high < 2 ^ 64 → IsWithin low high n → number_within low high (decimal n ∷ []) ≡ Ok n
 within_again low high n small w =

@@ -1,7 +1,7 @@
 -- From what a line was read as, to its words.
-use Rattle.std.proofs.Common.{arith, zero, suc, refl, eqb-true, ltb-true, ◌≡◌, ℕ, ◌<◌, ◌%◌, ◌==◌, Bool, true, ◌&&◌, List, [], ◌∷◌, length, sym, ap, subst, ◌∙◌, if◌then◌else◌, nat_lt, nat_le}
+use Rattle.std.proofs.Common.{arith, zero, suc, refl, ltb-true, ◌≡◌, ℕ, ◌<◌, Bool, true, false, ◌&&◌, List, [], ◌∷◌, length, sym, ap, subst, ◌∙◌, if◌then◌else◌, nat_lt, nat_le}
 use Rattle.std.specs.Fmt.{digits}
-use Rattle.std.specs.Prelude.{Ok, Err, bytes_eq, codes, decimal}
+use Rattle.std.specs.Prelude.{Some, None, Ok, Err, is_ok, ok_or, bytes_eq, codes, decimal}
 use Rattle.std.proofs.lemmas.Bool.{and_parts, leb-true}
 use Rattle.std.proofs.lemmas.Slice.Eq.{bytes_eq-Decides}
 use Rattle.hy_base.specs.declared.layout.Shape.{Shape}
@@ -11,22 +11,24 @@ use Rattle.hy_base.specs.declared.workload.Command.{Command}
 use Rattle.hy_base.specs.declared.workload.Command.TheVariants.{Get, Put, Del, Add, Scan}
 use Rattle.hy_base.specs.Entry.{is_told}
 use Rattle.hy_base.specs.Script.{Workload, IsCommand, client_count}
-use Rattle.hy_base.specs.Shape.{newest_version, IsWithin, IsGoodShape, is_within}
+use Rattle.hy_base.specs.Shape.{newest_version, shape_fault, IsWithin, IsGoodShape, is_within}
 use Rattle.hy_base.specs.Spelling.{Text}
 use Rattle.hy_base.specs.Value.{is_value}
 use Rattle.hy_base.specs.Limits.{IsServerNumber}
 use Rattle.hy_base.proofs.ShapeLemmas.{is_within-true}
-use Rattle.hy_script.specs.Fields.{and_then, one_number, two_numbers, three_numbers, number_and_text, no_fields}
-use Rattle.hy_script.specs.Grammar.{is_shape, is_versioned, shape_where, last_program_count}
+use Rattle.hy_script.specs.Fields.{and_then, one_number, two_numbers, three_numbers, four_numbers, number_and_text, no_fields}
+use Rattle.hy_script.specs.Grammar.{last_program_count}
 use Rattle.hy_script.specs.ScriptLaws.{FitsFields, plain}
-use Rattle.hy_script.specs.ScriptFields.{client_fields, begin_fields, listing_line, number_within, one_more, program_line, put_fields, scan_fields, servers_line, shape_fields, shape_line, shape_numbers, isolation_field}
-use Rattle.hy_script.specs.ScriptSpelling.{command_words, isolation_fields, spelled_shape, version_fields}
+use Rattle.hy_script.specs.ScriptFields.{client_fields, begin_fields, listing_line, number_within, one_more, program_line, put_fields, scan_fields, servers_line, as_shape, good_shape, shape_fields, shape_line, shape_numbers, told_by_three, told_by_four, told_with_horizon, isolation_field}
+use Rattle.hy_script.specs.ScriptSpelling.{command_words, isolation_fields, spelled_shape}
+use Rattle.hy_script.specs.declared.script.ToldShape.{ToldShape}
 use Rattle.hy_script.specs.declared.script.ListingLine.{ListingLine}
 use Rattle.hy_script.specs.declared.script.ListingLine.TheVariants.{Client, Begin, Schedule}
 use Rattle.hy_script.specs.declared.script.ProgramLine.{ProgramLine}
 use Rattle.hy_script.specs.declared.script.ProgramLine.TheVariants.{Next, End}
 use Rattle.hy_script.specs.declared.why.Why.TheVariants.{Word, Form, Value, Range, Order, Count, Version}
-use Rattle.hy_script.proofs.FieldsRead.{and_then_was, branch, if_was, none_was, one_was, text_was, three_was, four_was, two_was, words_are}
+use Rattle.hy_script.proofs.ShapeLines.{passes_good}
+use Rattle.hy_script.proofs.FieldsRead.{and_then_was, branch, if_was, else_was, none_was, one_was, text_was, three_was, four_was, two_was, words_are}
 
 -- the shape and the servers
 
@@ -34,52 +36,71 @@ pub record IsShapeLine (words : List Text) (shape : Shape) : Type 0 where
   pub are : plain words ≡ spelled_shape shape
   pub good : IsGoodShape shape
 
-abbrev shape_from : ℕ × ℕ × ℕ × ℕ → Shape
-shape_from p = record { group = p.0; window = p.1; cap = p.2; version = p.3 }
-
-shape_tests : (p : ℕ × ℕ × ℕ × ℕ) → is_versioned p.0 p.1 p.2 p.3 ≡ true → IsGoodShape (shape_from p)
-shape_tests p e =
-    let v = and_parts (is_shape p.0 p.1 p.2) (is_within 1 newest_version p.3) e in
-    let c = and_parts (is_within 1 8 p.0) _ v.0 in
-    let d = and_parts (is_within 1 64 p.1) _ c.1 in
-    let f = and_parts (is_within p.0 2147483648 p.2) (p.2 % p.0 == 0) d.1 in
-    record { group = is_within-true 1 8 p.0 c.0; window = is_within-true 1 64 p.1 d.0; cap = is_within-true p.0 2147483648 p.2 f.0; whole_groups = eqb-true (p.2 % p.0) 0 f.1; version = is_within-true 1 newest_version p.3 v.1 }
-
 -- numbers as a shape's fields tell them: version 1 by no word
-abbrev AreShapeNumbers : List Text → ℕ × ℕ × ℕ × ℕ → Type 0
-AreShapeNumbers fields p = IsWithin 1 newest_version p.3 → plain (codes "shape" ∷ fields) ≡ spelled_shape (shape_from p)
+abbrev AreShapeNumbers : List Text → ToldShape → Type 0
+AreShapeNumbers fields t = IsWithin 1 newest_version t.version → plain (codes "shape" ∷ fields) ≡ spelled_shape (as_shape t)
 
-plain_version : (group window cap : Text) (version : ℕ) → IsWithin 1 newest_version version
-    → plain (codes "shape" ∷ group ∷ window ∷ cap ∷ decimal version ∷ []) ≡ codes "shape" ∷ group ∷ window ∷ cap ∷ version_fields version
+-- a version without a horizon
+plain_version : (group window cap version : ℕ) → AreShapeNumbers (decimal group ∷ decimal window ∷ decimal cap ∷ decimal version ∷ []) (record { group = group; window = window; cap = cap; version = version; horizon = None })
 unfolding digits
-plain_version group window cap zero within = absurd (omega (arith, within.at_least))
-plain_version group window cap (suc zero) within = refl
-plain_version group window cap (suc (suc zero)) within = refl
-plain_version group window cap (suc (suc (suc n))) within = absurd (omega (arith, within.at_most))
+plain_version group window cap zero = λ within. absurd (omega (arith, within.at_least))
+plain_version group window cap (suc zero) = λ within. refl
+plain_version group window cap (suc (suc zero)) = λ within. refl
+plain_version group window cap (suc (suc (suc zero))) = λ within. refl
+plain_version group window cap (suc (suc (suc (suc n)))) = λ within. absurd (omega (arith, within.at_most))
 
-numbers_were : (fields : List Text) (p : ℕ × ℕ × ℕ × ℕ) → shape_numbers fields ≡ Ok p → AreShapeNumbers fields p
-numbers_were [] p e = cc
-numbers_were (a ∷ []) p e = cc
-numbers_were (a ∷ b ∷ []) p e = cc
-numbers_were (a ∷ b ∷ c ∷ []) p e = λ within.
-    let fields = a ∷ b ∷ c ∷ [] in
-    let step = and_then_was {B = ℕ × ℕ × ℕ × ℕ} (three_numbers fields) (λ q. Ok (q.0, q.1, q.2, 1)) p e in
-    let four : ℕ × ℕ × ℕ × ℕ = (step.0.0, step.0.1, step.0.2, 1) in
-    let same : four ≡ p = cc (step.2) in
-    ap (λ l. plain (codes "shape" ∷ l)) (three_was fields step.0 step.1).words ∙ ap (λ q. spelled_shape (shape_from q)) same
-numbers_were (a ∷ b ∷ c ∷ d ∷ rest) p e = λ within.
-    ap (λ l. plain (codes "shape" ∷ l)) (four_was (a ∷ b ∷ c ∷ d ∷ rest) p e).words ∙ plain_version (decimal p.0) (decimal p.1) (decimal p.2) p.3 within
+plain_horizon : (group window cap horizon : ℕ)
+    → AreShapeNumbers (decimal group ∷ decimal window ∷ decimal cap ∷ codes "3" ∷ decimal horizon ∷ []) (record { group = group; window = window; cap = cap; version = 3; horizon = Some horizon })
+unfolding digits
+plain_horizon group window cap horizon = λ within. refl
+
+three_were : (fields : List Text) (t : ToldShape) → told_by_three fields ≡ Ok t → AreShapeNumbers fields t
+three_were fields t e =
+    let step = and_then_was {B = ToldShape} (three_numbers fields) (λ p. Ok (record { group = p.0; window = p.1; cap = p.2; version = 1; horizon = None })) t e in
+    let told : ToldShape = record { group = step.0.0; window = step.0.1; cap = step.0.2; version = 1; horizon = None } in
+    let same : told ≡ t = cc (step.2) in
+    subst (AreShapeNumbers fields) same (λ within. ap (λ l. plain (codes "shape" ∷ l)) (three_was fields step.0 step.1).words)
+
+four_were : (fields : List Text) (t : ToldShape) → told_by_four fields ≡ Ok t → AreShapeNumbers fields t
+four_were fields t e =
+    let step = and_then_was {B = ToldShape} (four_numbers fields) (λ p. Ok (record { group = p.0; window = p.1; cap = p.2; version = p.3; horizon = None })) t e in
+    let told : ToldShape = record { group = step.0.0; window = step.0.1; cap = step.0.2; version = step.0.3; horizon = None } in
+    let same : told ≡ t = cc (step.2) in
+    subst (AreShapeNumbers fields) same (subst (λ l. AreShapeNumbers l told) (sym (four_was fields step.0 step.1).words) (plain_version step.0.0 step.0.1 step.0.2 step.0.3))
+
+five_were : (a b c d e : Text) (t : ToldShape) → bytes_eq d (codes "3") ≡ true → told_with_horizon (a ∷ b ∷ c ∷ e ∷ []) ≡ Ok t → AreShapeNumbers (a ∷ b ∷ c ∷ d ∷ e ∷ []) t
+five_were a b c d e t third read =
+    let step = and_then_was {B = ToldShape} (four_numbers (a ∷ b ∷ c ∷ e ∷ [])) (λ p. Ok (record { group = p.0; window = p.1; cap = p.2; version = 3; horizon = Some p.3 })) t read in
+    let told : ToldShape = record { group = step.0.0; window = step.0.1; cap = step.0.2; version = 3; horizon = Some step.0.3 } in
+    let same : told ≡ t = cc (step.2) in
+    let words : a ∷ b ∷ c ∷ d ∷ e ∷ [] ≡ decimal step.0.0 ∷ decimal step.0.1 ∷ decimal step.0.2 ∷ codes "3" ∷ decimal step.0.3 ∷ [] =
+    cc ((four_was (a ∷ b ∷ c ∷ e ∷ []) step.0 step.1).words, (bytes_eq-Decides d (codes "3")).0 third) in
+    subst (AreShapeNumbers (a ∷ b ∷ c ∷ d ∷ e ∷ [])) same (subst (λ l. AreShapeNumbers l told) (sym words) (plain_horizon step.0.0 step.0.1 step.0.2 step.0.3))
+
+numbers_were : (fields : List Text) (t : ToldShape) → shape_numbers fields ≡ Ok t → AreShapeNumbers fields t
+numbers_were [] t e = cc
+numbers_were (a ∷ []) t e = cc
+numbers_were (a ∷ b ∷ []) t e = cc
+numbers_were (a ∷ b ∷ c ∷ []) t e = three_were (a ∷ b ∷ c ∷ []) t e
+numbers_were (a ∷ b ∷ c ∷ d ∷ []) t e = four_were (a ∷ b ∷ c ∷ d ∷ []) t (else_was (bytes_eq d (codes "3")) (told_by_four (a ∷ b ∷ c ∷ d ∷ [])) Form t e).1
+numbers_were (a ∷ b ∷ c ∷ d ∷ f ∷ []) t e =
+    let third = if_was (bytes_eq d (codes "3")) (told_with_horizon (a ∷ b ∷ c ∷ f ∷ [])) Form t e in five_were a b c d f t third.0 third.1
+numbers_were (a ∷ b ∷ c ∷ d ∷ f ∷ g ∷ rest) t e = cc
+
+-- what is made where a test is met
+made_was : {A : Type 0} (t : Bool) (a b : A) → ok_or (if t then Some a else None) Range ≡ Ok b → (t ≡ true) × (a ≡ b)
+made_was true a b e = (refl, cc e)
+made_was false a b e = cc
 
 pub shape_was : (words : List Text) (shape : Shape) → shape_line words ≡ Ok shape → IsShapeLine words shape
 shape_was [] shape e = cc
 shape_was (word ∷ fields) shape e =
     let named = if_was (bytes_eq word (codes "shape")) (shape_fields fields) Word shape e in
-    let read = and_then_was (shape_numbers fields) (λ p. shape_where p.0 p.1 p.2 p.3) shape named.1 in
-    let p = read.0 in
-    let tested = if_was (is_versioned p.0 p.1 p.2 p.3) (Ok (shape_from p)) Range shape read.2 in
-    let good = shape_tests p tested.0 in
-    let same : shape_from p ≡ shape = cc (tested.1) in
-    subst (IsShapeLine (word ∷ fields)) same (record { are = ap plain (words_are word (codes "shape") fields fields named.0 refl) ∙ numbers_were fields p read.1 good.version; good = good })
+    let read = and_then_was (shape_numbers fields) (λ t. ok_or (good_shape t) Range) shape named.1 in
+    let tested = made_was (is_ok (shape_fault (as_shape read.0))) (as_shape read.0) shape read.2 in
+    let good = passes_good (as_shape read.0) tested.0 in
+    subst (IsShapeLine (word ∷ fields)) tested.1
+    (record { are = ap plain (words_are word (codes "shape") fields fields named.0 refl) ∙ numbers_were fields read.0 read.1 good.version; good = good })
 
 pub number_within_was : (low high : ℕ) (fields : List Text) (n : ℕ) → number_within low high fields ≡ Ok n → (fields ≡ decimal n ∷ []) × IsWithin low high n
 number_within_was low high fields n e =

@@ -14,7 +14,7 @@ use Rattle.hy_base.specs.Script.{Workload, client_count}
 use Rattle.hy_base.specs.Shape.{is_within}
 use Rattle.hy_base.specs.Value.{is_value}
 use Rattle.hy_base.specs.Spelling.{Text}
-use Rattle.hy_script.specs.Forms.{Meaning, LineForm, Alone, FixedWord, judged_words, meaning_of, is_blank, read_line, read_fields}
+use Rattle.hy_script.specs.Forms.{Meaning, LineForm, FixedWord, judged_words, meaning_of, is_blank, read_line, read_fields}
 use Rattle.hy_script.specs.Fields.{and_then, one_number, two_numbers, three_numbers, number_and_text, no_fields}
 use Rattle.hy_script.specs.Grammar.{Place, Listing, Programming, Scheduled, client_form, begins_program, begin_forms, schedule_form, forms_at, makes, makes_if, gains, with_client, with_program, gains_command, begun, last_program_count}
 use Rattle.hy_script.specs.LineParts.{leading, after_listing, after_program_line}
@@ -24,7 +24,7 @@ use Rattle.hy_script.specs.declared.script.ListingLine.{ListingLine}
 use Rattle.hy_script.specs.declared.script.ListingLine.TheVariants.{Client, Begin, Schedule}
 use Rattle.hy_script.specs.declared.why.Why.{Why}
 use Rattle.hy_script.specs.declared.why.Why.TheVariants.{Word, Form, Number, Value, Range, Order, Count, Version}
-use Rattle.hy_script.proofs.FieldLemmas.{read_alone, read_one, read_two, read_three, read_text, other_counts}
+use Rattle.hy_script.proofs.FieldLemmas.{read_alone, read_one, read_two, read_three, read_text, no_form}
 
 -- what leads on for each reading of the fields leads on
 over : {A B : Type 0} (place : B → Place) (read : Result A Why) (meaning : A → Meaning Place) (next : A → Result B Why)
@@ -166,7 +166,8 @@ begin_forms_read : (number : ℕ) (script : Workload) (fields : List Text) → l
 begin_forms_read number script [] = sym (begin_tests (nat_lt (last_program_count script.clients) 10000) true script number Serializable)
 begin_forms_read number script (a ∷ []) = begin_word (is_blank a) (bytes_eq a (codes "snapshot")) a script number (not_blank a)
 begin_forms_read number script (a ∷ b ∷ rest) =
-    let fields = a ∷ b ∷ rest in sym (other_counts (Alone "begin" (begins_program script Serializable)) (FixedWord "begin" "snapshot" (begins_program script Snapshot)) fields (ne_eqb 0 (length fields) (omega arith)) refl)
+    let fields = a ∷ b ∷ rest in
+    sym (no_form (begin_forms script) fields (ne_eqb 0 (length fields) (omega arith), (ne_eqb 1 (length fields) (omega arith), tt)))
 
 -- the same with a stuck test in place
 abbrev listing_with : Bool → Bool → Workload → List Text → Result ListingLine Why

@@ -1,6 +1,6 @@
 -- What a script spells is read as that script.
-use Rattle.std.proofs.Common.{arith, ◌≡◌, ℕ, ◌+◌, ◌<◌, ◌≤◌, ◌^◌, ◌==◌, Bool, true, false, cond, if◌then◌else◌, List, [], ◌∷◌, ◌++◌, length, refl, sym, ap, subst, ◌∙◌, append_assoc, append-nil, length-append}
-use Rattle.std.specs.Prelude.{map, flat_map, Ok, All, codes, decimal}
+use Rattle.std.proofs.Common.{arith, ◌≡◌, ℕ, ◌+◌, ◌*◌, ◌<◌, ◌≤◌, ◌^◌, ◌==◌, Bool, true, false, cond, if◌then◌else◌, List, [], ◌∷◌, ◌++◌, length, refl, sym, ap, subst, ◌∙◌, append_assoc, append-nil, length-append}
+use Rattle.std.specs.Prelude.{map, flat_map, Option, Some, None, IfSome, Ok, All, codes, decimal}
 use Rattle.std.specs.List.{AllByRecursion, join_with_byte, list_all}
 use Rattle.std.proofs.lemmas.Bool.{and_parts}
 use Rattle.std.proofs.lemmas.Bool.Decides.{nat_tests}
@@ -26,13 +26,14 @@ use Rattle.hy_script.specs.Lines.{lines_of, numbered_lines, words_of}
 use Rattle.hy_script.specs.LineParts.{after_listing, after_program_line, leading}
 use Rattle.hy_script.specs.ScriptReading.{place_after, place_after_all}
 use Rattle.hy_script.specs.ScriptFields.{listing_line, program_line, servers_line, shape_line}
-use Rattle.hy_script.specs.ScriptSpelling.{client_lines, command_words, isolation_fields, spelled_shape, program_lines, script_lines, script_text, text_of_lines}
+use Rattle.hy_script.specs.ScriptSpelling.{client_lines, command_words, horizon_fields, isolation_fields, spelled_shape, program_lines, script_lines, script_text, text_of_lines}
 use Rattle.hy_script.proofs.Drafts.{change_last_is, last_program_count_is, script_with, counted_at}
 use Rattle.hy_script.proofs.LinesAgain.{begin_again, client_again, command_again, servers_again, shape_again}
 use Rattle.hy_script.proofs.LinesSpelled.{IsSpeech, is_visible, lines_first, numbered_first, visible_decimal, visible_value, words_spelled}
 use Rattle.hy_script.proofs.ProgramLines.{listing_leads, program_leads}
 use Rattle.hy_script.proofs.ReadLemmas.{whole, then_all}
-use Rattle.hy_script.proofs.ScriptLines.{served, servers_leads, shape_leads}
+use Rattle.hy_script.proofs.ScriptLines.{served, servers_leads}
+use Rattle.hy_script.proofs.ShapeLines.{shape_leads}
 
 -- lines of these words are cut as they stand, and lead from a place to another, whatever stands before and behind them
 pub record Walks (sim : Bool) (place : Place) (lines : List (List Text)) (last : Place) : Type 0 where
@@ -70,9 +71,14 @@ one_line sim place last words speech leads = record {
 
 -- what the lines of a place lead to, by their words
 
-visible_version : (t : Bool) (version : ℕ) → version < 2 ^ 64 → AllByRecursion (λ word. is_visible word ≡ true) (if t then [] else decimal version ∷ [])
-visible_version true version small = tt
-visible_version false version small = (visible_decimal version small, tt)
+visible_horizon : (horizon : Option ℕ) (low : ℕ) → IfSome horizon (IsWithin low 2147483648) → AllByRecursion (λ word. is_visible word ≡ true) (horizon_fields horizon)
+visible_horizon None low within = tt
+visible_horizon (Some h) low within = (visible_decimal h (omega (arith, within.at_most)), tt)
+
+visible_version : (t : Bool) (version : ℕ) (rest : List Text) → version < 2 ^ 64 → AllByRecursion (λ word. is_visible word ≡ true) rest
+    → AllByRecursion (λ word. is_visible word ≡ true) (if t then [] else decimal version ∷ rest)
+visible_version true version rest small visible = tt
+visible_version false version rest small visible = (visible_decimal version small, visible)
 
 shape_walks : (sim : Bool) (shape : Shape) → IsGoodShape shape → Walks sim AtStart (spelled_shape shape ∷ []) (Shaped shape)
 shape_walks sim shape good =
@@ -86,7 +92,8 @@ shape_walks sim shape good =
             visible_decimal shape.window (omega (arith, good.window.at_most)),
             (
               visible_decimal shape.cap (omega (arith, good.cap.at_most)),
-              visible_version (shape.version == 1) shape.version (omega (arith, good.version.at_most)),
+              visible_version (shape.version == 1) shape.version (horizon_fields shape.horizon) (omega (arith, good.version.at_most))
+                  (visible_horizon shape.horizon (shape.group * shape.window) good.horizon),
             ),
           ),
         ),

@@ -6,59 +6,18 @@ use Rattle.hy_base.specs.declared.workload.Client.{Client}
 use Rattle.hy_base.specs.Entry.{is_told}
 use Rattle.hy_base.specs.Script.{Workload}
 use Rattle.hy_base.specs.Shape.{is_within}
-use Rattle.hy_base.specs.Spelling.{Text, number_of}
-use Rattle.hy_script.specs.Forms.{ThreeNumbers, FourNumbers, judged_words, read_line, read_fields, is_blank}
-use Rattle.hy_script.specs.Fields.{and_then, three_numbers, one_number, no_fields}
-use Rattle.hy_script.specs.Grammar.{Place, AtStart, Shaped, Listing, last_program_count, is_versioned, shape_where, shaped, shape_forms, forms_at, makes_if}
+use Rattle.hy_base.specs.Spelling.{Text}
+use Rattle.hy_script.specs.Forms.{judged_words, read_line}
+use Rattle.hy_script.specs.Fields.{and_then, one_number, no_fields}
+use Rattle.hy_script.specs.Grammar.{Place, Shaped, Listing, last_program_count, forms_at, makes_if}
 use Rattle.hy_script.specs.LineParts.{leading}
-use Rattle.hy_script.specs.ScriptFields.{shape_line, shape_numbers, servers_line, begin_fields, isolation_field, listing_line}
+use Rattle.hy_script.specs.ScriptFields.{servers_line, begin_fields, isolation_field, listing_line}
 use Rattle.hy_script.specs.declared.script.ListingLine.{ListingLine}
 use Rattle.hy_script.specs.declared.script.ListingLine.TheVariants.{Begin, Schedule}
 use Rattle.hy_script.specs.declared.why.Why.{Why}
-use Rattle.hy_script.specs.declared.why.Why.TheVariants.{Word, Form, Range, Count, Version}
-use Rattle.std.specs.List.{list_any}
-use Rattle.std.proofs.lemmas.Bool.{ne_eqb}
+use Rattle.hy_script.specs.declared.why.Why.TheVariants.{Word, Range, Count, Version}
 use Rattle.std.proofs.lemmas.Slice.Eq.{bytes_eq-Decides}
-use Rattle.hy_script.proofs.FieldLemmas.{read_one, three_fields, four_fields, same_either, other_counts}
-
-one_test : (t : Bool) (shape : Shape) → judged_words (makes_if ((t, Range) ∷ []) (Shaped shape)) ≡ leading Shaped (if t then Ok shape else Err Range)
-one_test true shape = refl
-one_test false shape = refl
-
-shape_after : (numbers : Result (ℕ × ℕ × ℕ × ℕ) Why)
-    → and_then numbers (λ p. judged_words (shaped p.0 p.1 p.2 p.3)) ≡ leading Shaped (and_then numbers (λ p. shape_where p.0 p.1 p.2 p.3))
-shape_after (Ok p) = one_test (is_versioned p.0 p.1 p.2 p.3) (record { group = p.0; window = p.1; cap = p.2; version = p.3 })
-shape_after (Err why) = refl
-
--- three numbers are those of version 1
-first_version : (numbers : Result (ℕ × ℕ × ℕ) Why)
-    → and_then numbers (λ p. judged_words (shaped p.0 p.1 p.2 1)) ≡ and_then {A = ℕ × ℕ × ℕ × ℕ} (and_then numbers (λ p. Ok (p.0, p.1, p.2, 1))) (λ p. judged_words (shaped p.0 p.1 p.2 p.3))
-first_version (Ok p) = refl
-first_version (Err why) = refl
-
-shape_read : (fields : List Text) → read_fields shape_forms fields ≡ and_then (shape_numbers fields) (λ p. judged_words (shaped p.0 p.1 p.2 p.3))
-shape_read [] = refl
-shape_read (a ∷ []) = same_either (list_any is_blank (a ∷ [])) (Err Form)
-shape_read (a ∷ b ∷ []) = same_either (list_any is_blank (a ∷ b ∷ [])) (Err Form)
-shape_read (a ∷ b ∷ c ∷ []) =
-    three_fields (list_any is_blank (a ∷ b ∷ c ∷ [])) (λ k l m. shaped k l m 1) (number_of a) (number_of b) (number_of c) ∙ first_version (three_numbers (a ∷ b ∷ c ∷ []))
-shape_read (a ∷ b ∷ c ∷ d ∷ []) = four_fields (list_any is_blank (a ∷ b ∷ c ∷ d ∷ [])) shaped (number_of a) (number_of b) (number_of c) (number_of d)
-shape_read (a ∷ b ∷ c ∷ d ∷ e ∷ rest) =
-    let fields = a ∷ b ∷ c ∷ d ∷ e ∷ rest in
-    other_counts (ThreeNumbers "shape" (λ k l m. shaped k l m 1)) (FourNumbers "shape" shaped) fields (ne_eqb 3 (length fields) (omega arith)) (ne_eqb 4 (length fields) (omega arith))
-
-shape_named : (sim : Bool) (number : ℕ) (fields : List Text) → leading Shaped (shape_line (codes "shape" ∷ fields)) ≡ read_line (forms_at sim AtStart number) (codes "shape" ∷ fields)
-shape_named sim number fields = sym (shape_read fields ∙ shape_after (shape_numbers fields))
-
-shape_by : (sim : Bool) (number : ℕ) (word : Text) (fields : List Text) (t : Bool) → bytes_eq word (codes "shape") ≡ t
-    → leading Shaped (shape_line (word ∷ fields)) ≡ read_line (forms_at sim AtStart number) (word ∷ fields)
-shape_by sim number word fields true e =
-    subst (λ w. leading Shaped (shape_line (w ∷ fields)) ≡ read_line (forms_at sim AtStart number) (w ∷ fields)) (sym ((bytes_eq-Decides word (codes "shape")).0 e)) (shape_named sim number fields)
-shape_by sim number word fields false e = rw e refl
-
-pub shape_leads : (sim : Bool) (number : ℕ) (words : List Text) → leading Shaped (shape_line words) ≡ read_line (forms_at sim AtStart number) words
-shape_leads sim number [] = refl
-shape_leads sim number (word ∷ fields) = shape_by sim number word fields (bytes_eq word (codes "shape")) refl
+use Rattle.hy_script.proofs.FieldLemmas.{read_one}
 
 abbrev pub served : Shape → ℕ → Place
 served shape servers = Listing (record { shape = shape; servers = servers; clients = [] })

@@ -36,7 +36,8 @@ use Rattle.hy_script.proofs.LinesRead.{IsListingLine, IsProgramLine, listing_was
 use Rattle.hy_script.proofs.PlaceLemmas.{next_kept}
 use Rattle.hy_script.proofs.ProgramLines.{listing_leads, program_leads}
 use Rattle.hy_script.proofs.ReadLemmas.{scheduled, finish, then_all}
-use Rattle.hy_script.proofs.ScriptLines.{served, servers_leads, shape_leads}
+use Rattle.hy_script.proofs.ScriptLines.{served, servers_leads}
+use Rattle.hy_script.proofs.ShapeLines.{shape_leads}
 
 -- lists that grow
 

@@ -1,5 +1,5 @@
 -- The lines of a script and of a schedule: which may stand where, and what each of them makes.
-use Rattle.std.specs.Prelude.{ℕ, ◌%◌, Bool, ◌&&◌, List, [], ◌∷◌, ◌++◌, length, nat_lt, nat_le, ◌==◌, if◌then◌else◌, Result, Ok, Err}
+use Rattle.std.specs.Prelude.{ℕ, Bool, ◌&&◌, List, [], ◌∷◌, ◌++◌, length, nat_lt, nat_le, if◌then◌else◌, Option, Some, None, Result, is_ok}
 use Rattle.hy_base.specs.declared.layout.Shape.{Shape}
 use Rattle.hy_base.specs.declared.workload.Command.{Command}
 use Rattle.hy_base.specs.declared.workload.Command.TheVariants.{Get, Put, Del, Add, Scan}
@@ -8,13 +8,13 @@ use Rattle.hy_base.specs.declared.workload.Program.{Program}
 use Rattle.hy_base.specs.declared.workload.Event.{Event}
 use Rattle.hy_base.specs.declared.workload.Event.TheVariants.{Begin, Append, End, Refuse, Pad, Publish, Stop}
 use Rattle.hy_base.specs.Script.{Workload, client_count}
-use Rattle.hy_base.specs.Shape.{newest_version, is_within}
+use Rattle.hy_base.specs.Shape.{is_within, shape_fault}
 use Rattle.hy_base.specs.declared.record.Isolation.{Isolation}
 use Rattle.hy_base.specs.declared.record.Isolation.TheVariants.{Serializable, Snapshot}
 use Rattle.hy_base.specs.Entry.{is_told}
 use Rattle.hy_base.specs.Value.{is_value}
 use Rattle.hy_base.specs.Spelling.{Text}
-use Rattle.hy_script.specs.Forms.{Meaning, LineForm, Alone, OneNumber, TwoNumbers, ThreeNumbers, FourNumbers, NumberAndText, FixedWord, read_line}
+use Rattle.hy_script.specs.Forms.{Meaning, LineForm, Alone, OneNumber, TwoNumbers, ThreeNumbers, NumberAndText, FixedWord, OtherFourth, FixedFourth, read_line}
 use Rattle.hy_script.specs.declared.why.Why.{Why}
 use Rattle.hy_script.specs.declared.why.Why.TheVariants.{Value, Range, Order, Count, Version}
 
@@ -67,25 +67,19 @@ begun isolation = record { isolation = isolation; commands = [] }
 abbrev pub gains_command : Command → Program → Program
 gains_command command program = record program { commands = program.commands ++ command ∷ [] }
 
--- the ranges of a shape: whole groups of 1 to 8 up to the capacity, and windows of 1 to 64
-abbrev pub is_shape : ℕ → ℕ → ℕ → Bool
-is_shape group window cap =
-    is_within 1 8 group && (is_within 1 64 window && (is_within group 2147483648 cap && (cap % group == 0)))
+-- the shape of these fields, each of which is in its range
+abbrev pub shaped : ℕ → ℕ → ℕ → ℕ → Option ℕ → Meaning Place
+shaped group window cap version horizon =
+    let shape : Shape = record { group = group; window = window; cap = cap; version = version; horizon = horizon } in
+    makes_if ((is_ok (shape_fault shape), Range) ∷ []) (Shaped shape)
 
--- and of a version
-abbrev pub is_versioned : ℕ → ℕ → ℕ → ℕ → Bool
-is_versioned group window cap version = is_shape group window cap && is_within 1 newest_version version
-
-abbrev pub shape_where : ℕ → ℕ → ℕ → ℕ → Result Shape Why
-shape_where group window cap version = if is_versioned group window cap version then Ok (record { group = group; window = window; cap = cap; version = version }) else Err Range
-
-abbrev pub shaped : ℕ → ℕ → ℕ → ℕ → Meaning Place
-shaped group window cap version =
-    makes_if ((is_versioned group window cap version, Range) ∷ []) (Shaped (record { group = group; window = window; cap = cap; version = version }))
-
--- shape G W CAP, of version 1, and shape G W CAP V
+-- shape G W CAP, of version 1; shape G W CAP V, V not being 3; and shape G W CAP 3 HOR
 abbrev pub shape_forms : List (LineForm Place)
-shape_forms = ThreeNumbers "shape" (λ group window cap. shaped group window cap 1) ∷ FourNumbers "shape" shaped ∷ []
+shape_forms =
+    ThreeNumbers "shape" (λ group window cap. shaped group window cap 1 None)
+    ∷ OtherFourth "shape" "3" (λ group window cap version. shaped group window cap version None)
+    ∷ FixedFourth "shape" "3" (λ group window cap horizon. shaped group window cap 3 (Some horizon))
+    ∷ []
 
 -- servers S
 abbrev pub servers_form : Shape → LineForm Place

@@ -1,5 +1,5 @@
 -- How a script and a schedule are written: each line as the grammar has it, no comments and no empty lines.
-use Rattle.std.specs.Prelude.{ℕ, ◌==◌, if◌then◌else◌, List, [], ◌∷◌, ◌++◌, map, flat_map, codes, decimal}
+use Rattle.std.specs.Prelude.{ℕ, ◌==◌, if◌then◌else◌, List, [], ◌∷◌, ◌++◌, map, flat_map, codes, decimal, Option, Some, None}
 use Rattle.hy_base.specs.declared.layout.Shape.{Shape}
 use Rattle.hy_base.specs.declared.record.Isolation.{Isolation}
 use Rattle.hy_base.specs.declared.record.Isolation.TheVariants.{Serializable, Snapshot}
@@ -22,9 +22,13 @@ abbrev pub isolation_fields : Isolation → List Text
 isolation_fields Serializable = []
 isolation_fields Snapshot = codes "snapshot" ∷ []
 
--- version 1 is told by no word
-abbrev pub version_fields : ℕ → List Text
-version_fields version = if version == 1 then [] else decimal version ∷ []
+abbrev pub horizon_fields : Option ℕ → List Text
+horizon_fields None = []
+horizon_fields (Some h) = decimal h ∷ []
+
+-- version 1 is told by no word, and a horizon by its number
+abbrev pub version_fields : Shape → List Text
+version_fields shape = if shape.version == 1 then [] else decimal shape.version ∷ horizon_fields shape.horizon
 
 abbrev pub program_lines : Program → List (List Text)
 program_lines program = (codes "begin" ∷ isolation_fields program.isolation) ∷ map command_words program.commands ++ (codes "end" ∷ []) ∷ []
@@ -33,7 +37,7 @@ abbrev pub client_lines : Client → List (List Text)
 client_lines client = (codes "client" ∷ decimal client.server ∷ []) ∷ flat_map program_lines client.programs
 
 abbrev pub spelled_shape : Shape → List Text
-spelled_shape shape = codes "shape" ∷ decimal shape.group ∷ decimal shape.window ∷ decimal shape.cap ∷ version_fields shape.version
+spelled_shape shape = codes "shape" ∷ decimal shape.group ∷ decimal shape.window ∷ decimal shape.cap ∷ version_fields shape
 
 -- the words of a script's lines
 abbrev pub script_lines : Workload → List (List Text)

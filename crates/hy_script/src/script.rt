@@ -1,12 +1,12 @@
 //! The lines of a script.
-ghost use Rattle.std.specs.Prelude.{◌≡◌, ◌<◌, ℕ, true, List, Ok, Err, length, if◌then◌else◌, nat_lt, IfOk};
+ghost use Rattle.std.specs.Prelude.{◌≡◌, ◌<◌, ℕ, true, List, Ok, Err, length, if◌then◌else◌, nat_lt, IfOk, IfSome};
 ghost use Rattle.hy_base.specs.declared.record.Isolation.{Isolation};
 ghost use Rattle.hy_base.specs.Entry.{is_told};
 ghost use Rattle.hy_base.specs.Script.{IsCommand, client_count};
 ghost use Rattle.hy_base.specs.Shape.{IsGoodShape, IsWithin};
 ghost use Rattle.hy_script.specs.Fields.{HasFields, and_then, one_number, two_numbers, three_numbers, four_numbers, no_fields};
 ghost use Rattle.hy_script.specs.LineParts.{IsClientListed, IsNextLine};
-ghost use Rattle.hy_script.specs.ScriptFields.{shape_fields, shape_numbers, isolation_field, scan_fields, ValueOf, shape_line, servers_line, number_within, client_fields, listing_line, one_more, put_fields, program_line, TellsField};
+ghost use Rattle.hy_script.specs.ScriptFields.{shape_fields, shape_numbers, good_shape, told_by_three, told_by_four, told_with_horizon, isolation_field, scan_fields, ValueOf, shape_line, servers_line, number_within, client_fields, listing_line, one_more, put_fields, program_line, TellsField};
 ghost use Rattle.hy_script.specs.Lines.{words_of};
 ghost use Rattle.hy_base.specs.declared.workload.Command.TheVariants.{Get, Del, Add};
 ghost use Rattle.hy_base.specs.Limits.{IsServerNumber};
@@ -19,9 +19,7 @@ use crate::words::{
     Fields, cut_fields, four_numbers, no_fields, number_and_text, one_number, three_numbers,
     two_numbers,
 };
-use hy_base::{
-    Client, Command, Isolation, NEWEST_VERSION, Shape, Value, ValueError, tells_isolation,
-};
+use hy_base::{Client, Command, Isolation, Shape, Value, ValueError, tells_isolation};
 use std::alloc::{AllocError, Global};
 
 /// Why a line was not read.
@@ -68,39 +66,104 @@ pub enum ProgramLine {
     End,
 }
 
-// Three numbers are a shape of version 1.
-fn shape_numbers(fields: Fields<'_>) -> Result<(u64, u64, u64, u64), Why>
+/// What a line tells of a shape.
+#[derive(Clone, Copy)]
+pub struct ToldShape {
+    group: u64,
+    window: u64,
+    cap: u64,
+    version: u64,
+    horizon: Option<u64>,
+}
+
+// Three numbers are of version 1.
+fn told_by_three(fields: Fields<'_>) -> Result<ToldShape, Why>
+    ensures { (words : List (List ℕ)) → HasFields fields.entry words → result ≡ told_by_three words }
+{
+    let (group, window, cap) = three_numbers(fields)?;
+    Ok(ToldShape {
+        group,
+        window,
+        cap,
+        version: 1,
+        horizon: None,
+    })
+}
+
+// A fourth number is the version.
+fn told_by_four(fields: Fields<'_>) -> Result<ToldShape, Why>
+    ensures { (words : List (List ℕ)) → HasFields fields.entry words → result ≡ told_by_four words }
+{
+    let (group, window, cap, version) = four_numbers(fields)?;
+    Ok(ToldShape {
+        group,
+        window,
+        cap,
+        version,
+        horizon: None,
+    })
+}
+
+// Or it is the horizon of a shape of version 3.
+fn told_with_horizon(fields: Fields<'_>) -> Result<ToldShape, Why>
+    ensures { (words : List (List ℕ)) → HasFields fields.entry words → result ≡ told_with_horizon words }
+{
+    let (group, window, cap, horizon) = four_numbers(fields)?;
+    Ok(ToldShape {
+        group,
+        window,
+        cap,
+        version: 3,
+        horizon: Some(horizon),
+    })
+}
+
+// A horizon stands behind the version 3, and behind no other.
+fn shape_numbers(fields: Fields<'_>) -> Result<ToldShape, Why>
     ensures { (words : List (List ℕ)) → HasFields fields.entry words → result ≡ shape_numbers words }
 {
     match fields {
-        Fields::Four(..) => four_numbers(fields),
-        _ => {
-            let (group, window, cap) = three_numbers(fields)?;
-            Ok((group, window, cap, 1))
+        Fields::Four(_, _, _, version) => {
+            if version == b"3".as_slice() {
+                return Err(Why::Form);
+            }
+            told_by_four(fields)
         }
+        Fields::Five(group, window, cap, version, horizon) => {
+            if version == b"3".as_slice() {
+                return told_with_horizon(Fields::Four(group, window, cap, horizon));
+            }
+            Err(Why::Form)
+        }
+        _ => told_by_three(fields),
     }
+}
+
+// The shape that is told, where each number is in its range.
+fn good_shape(told: ToldShape) -> Option<Shape>
+    ensures exact { result ≡ good_shape told }
+    ensures good { IfSome result IsGoodShape }
+{
+    let horizon = match told.horizon {
+        Some(horizon) => Some(u32::try_from(horizon).ok()?),
+        None => None,
+    };
+    let shape = Shape {
+        group: u8::try_from(told.group).ok()?,
+        window: u8::try_from(told.window).ok()?,
+        cap: u32::try_from(told.cap).ok()?,
+        version: u8::try_from(told.version).ok()?,
+        horizon,
+    };
+    shape.check().ok()?;
+    Some(shape)
 }
 
 fn shape_of(fields: Fields<'_>) -> Result<Shape, Why>
     ensures exact { (words : List (List ℕ)) → HasFields fields.entry words → result ≡ shape_fields words }
     ensures good { IfOk result IsGoodShape }
 {
-    let (group, window, cap, version) = shape_numbers(fields)?;
-    if group < 1 || group > 8 || window < 1 || window > 64 {
-        return Err(Why::Range);
-    }
-    if cap < group || cap > 2147483648 || cap % group != 0 {
-        return Err(Why::Range);
-    }
-    if version < 1 || version > NEWEST_VERSION as u64 {
-        return Err(Why::Range);
-    }
-    Ok(Shape {
-        group: group as u8,
-        window: window as u8,
-        cap: cap as u32,
-        version: version as u8,
-    })
+    good_shape(shape_numbers(fields)?).ok_or(Why::Range)
 }
 
 /// The shape.

@@ -1,5 +1,5 @@
 //! How a line is cut into its first word and its fields.
-ghost use Rattle.std.specs.Prelude.{◌≡◌, ℕ, List, []};
+ghost use Rattle.std.specs.Prelude.{◌≡◌, ◌++◌, ◌∷◌, ℕ, List, []};
 ghost use Rattle.std.specs.Option.{option_map_or};
 ghost use Rattle.hy_script.specs.Lines.{pieces_of, words_of};
 ghost use Rattle.hy_script.specs.Fields.{HasFields, HasWords, number_field, one_number, two_numbers, three_numbers, four_numbers, number_and_text, no_fields};
@@ -17,46 +17,40 @@ pub enum Fields<'a> {
     Two(&'a [u8], &'a [u8]),
     Three(&'a [u8], &'a [u8], &'a [u8]),
     Four(&'a [u8], &'a [u8], &'a [u8], &'a [u8]),
-    /// One is empty, or there are more than four.
+    Five(&'a [u8], &'a [u8], &'a [u8], &'a [u8], &'a [u8]),
+    /// One is empty, or there are more than five.
     Bad,
 }
 
-#[tactic(auto, using(crate::proofs::Cutting::has_pieces))]
-fn fields_of(rest: Option<&[u8]>) -> Fields<'_>
+impl<'a> Fields<'a> {
+    // These fields, and one more.
+    fn with(self, field: &'a [u8]) -> Fields<'a>
+        ensures { (words : List (List ℕ)) → HasFields self.entry words → HasFields result (words ++ field.now ∷ []) }
+    {
+        if field.is_empty() {
+            return Fields::Bad;
+        }
+        match self {
+            Fields::Zero => Fields::One(field),
+            Fields::One(a) => Fields::Two(a, field),
+            Fields::Two(a, b) => Fields::Three(a, b, field),
+            Fields::Three(a, b, c) => Fields::Four(a, b, c, field),
+            Fields::Four(a, b, c, d) => Fields::Five(a, b, c, d, field),
+            Fields::Five(..) | Fields::Bad => Fields::Bad,
+        }
+    }
+}
+
+fn fields_of(mut rest: Option<&[u8]>) -> Fields<'_>
     ensures { HasFields result (option_map_or (λ bytes. pieces_of 32 bytes.now) rest.entry []) }
 {
-    let Some(rest) = rest else {
-        return Fields::Zero;
-    };
-    let (first, rest) = cut(b' ', rest);
-    if first.is_empty() {
-        return Fields::Bad;
+    let mut fields = Fields::Zero;
+    while let Some(bytes) = rest {
+        let (field, more) = cut(b' ', bytes);
+        fields = fields.with(field);
+        rest = more;
     }
-    let Some(rest) = rest else {
-        return Fields::One(first);
-    };
-    let (second, rest) = cut(b' ', rest);
-    if second.is_empty() {
-        return Fields::Bad;
-    }
-    let Some(rest) = rest else {
-        return Fields::Two(first, second);
-    };
-    let (third, rest) = cut(b' ', rest);
-    if third.is_empty() {
-        return Fields::Bad;
-    }
-    let Some(rest) = rest else {
-        return Fields::Three(first, second, third);
-    };
-    let (fourth, rest) = cut(b' ', rest);
-    if fourth.is_empty() {
-        return Fields::Bad;
-    }
-    match rest {
-        None => Fields::Four(first, second, third, fourth),
-        Some(_) => Fields::Bad,
-    }
+    fields
 }
 
 /// The first word of a line, and its fields.

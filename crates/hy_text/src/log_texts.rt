@@ -5,9 +5,10 @@ ghost use Rattle.std.specs.Prelude.{◌≡◌, ◌∷◌, ◌+◌, ◌-◌, ◌+
 ghost use Rattle.std.specs.List.{enumerate_from};
 ghost use Rattle.hy_base.specs.Spelling.{line};
 ghost use Rattle.hy_formats.specs.EntryFormat.{isolation_code};
-ghost use Rattle.hy_formats.specs.Texts.{ahead_fault_text, check_text, config_fault_text, device_fault_text, dump_text, entry_fault_text, entry_text, judged_text, page_fault_text, point_fault_text, row_text, shape_words, waiting_text};
+ghost use Rattle.hy_formats.specs.Texts.{ahead_fault_text, check_text, config_fault_text, device_fault_text, dump_text, entry_fault_text, entry_text, isolation_words, judged_text, page_fault_text, point_fault_text, row_text, shape_words, version_words, waiting_text};
+ghost use Rattle.hy_text.specs.LineWords.{spaced};
 
-use crate::texts::{Word, put_line, put_rows, put_verdict};
+use crate::texts::{Word, put_line, put_rows, put_verdict, put_words};
 use hy_base::{Entry, EntryKind, Intention, Isolation, Pos, Row, Shape, Verdict, tells_isolation};
 use std::alloc::{AllocError, Global};
 
@@ -33,7 +34,18 @@ fn isolation_code(isolation: Isolation) -> u64
     }
 }
 
-// From version 2 on its isolation is told too.
+// The words for the isolation of an entry, which is told from version 2 on.
+#[tactic(auto, unfolding(crate::specs::LineWords::spaced))]
+fn put_isolation(out: &mut Vec<u8>, version: u8, isolation: Isolation) -> Result<(), AllocError>
+    ensures { OnOk result (out.new.items ≡ out.old.items ++ spaced (isolation_words version isolation)) }
+{
+    if tells_isolation(version) {
+        let words = [Word::Plain(b"iso"), Word::Number(isolation_code(isolation))];
+        put_words(out, &words)?;
+    }
+    Ok(())
+}
+
 fn put_transaction(
     out: &mut Vec<u8>,
     version: u8,
@@ -42,43 +54,26 @@ fn put_transaction(
 ) -> Result<(), AllocError>
     ensures { OnOk result (out.new.items ≡ out.old.items ++ entry_text version (pos, EntryKind.Txn intention.now)) }
 {
-    if tells_isolation(version) {
-        let words = [
-            Word::Number(pos),
-            Word::Plain(b"server"),
-            Word::Number(intention.server as u64),
-            Word::Plain(b"client"),
-            Word::Number(intention.client as u64),
-            Word::Plain(b"snap"),
-            Word::Number(intention.snap as u64),
-            Word::Plain(b"points"),
-            Word::Number(intention.points.len() as u64),
-            Word::Plain(b"spans"),
-            Word::Number(intention.spans.len() as u64),
-            Word::Plain(b"writes"),
-            Word::Number(intention.writes.len() as u64),
-            Word::Plain(b"iso"),
-            Word::Number(isolation_code(intention.isolation)),
-        ];
-        put_line(out, b"entry", &words)
-    } else {
-        let words = [
-            Word::Number(pos),
-            Word::Plain(b"server"),
-            Word::Number(intention.server as u64),
-            Word::Plain(b"client"),
-            Word::Number(intention.client as u64),
-            Word::Plain(b"snap"),
-            Word::Number(intention.snap as u64),
-            Word::Plain(b"points"),
-            Word::Number(intention.points.len() as u64),
-            Word::Plain(b"spans"),
-            Word::Number(intention.spans.len() as u64),
-            Word::Plain(b"writes"),
-            Word::Number(intention.writes.len() as u64),
-        ];
-        put_line(out, b"entry", &words)
-    }
+    let words = [
+        Word::Number(pos),
+        Word::Plain(b"server"),
+        Word::Number(intention.server as u64),
+        Word::Plain(b"client"),
+        Word::Number(intention.client as u64),
+        Word::Plain(b"snap"),
+        Word::Number(intention.snap as u64),
+        Word::Plain(b"points"),
+        Word::Number(intention.points.len() as u64),
+        Word::Plain(b"spans"),
+        Word::Number(intention.spans.len() as u64),
+        Word::Plain(b"writes"),
+        Word::Number(intention.writes.len() as u64),
+    ];
+    out.extend_from_slice(b"entry")?;
+    put_words(out, &words)?;
+    put_isolation(out, version, intention.isolation)?;
+    out.push(b'\n')?;
+    Ok(())
 }
 
 fn put_entry(out: &mut Vec<u8>, version: u8, pos: u64, entry: &Entry) -> Result<(), AllocError>
@@ -100,42 +95,47 @@ fn put_entries(out: &mut Vec<u8>, version: u8, entries: &[Entry]) -> Result<(), 
     Ok(())
 }
 
-// How the log is cut, and how many entries it has. A version other than 1 is told too.
+// The words for the version of a log, which is told from 2 on, and for its horizon, where it has one.
+#[tactic(auto, unfolding(crate::specs::LineWords::spaced))]
+fn put_version(out: &mut Vec<u8>, shape: Shape) -> Result<(), AllocError>
+    ensures { OnOk result (out.new.items ≡ out.old.items ++ spaced (version_words shape)) }
+{
+    if shape.version == 1 {
+        return Ok(());
+    }
+    let version = [Word::Plain(b"version"), Word::Number(shape.version as u64)];
+    put_words(out, &version)?;
+    if let Some(horizon) = shape.horizon {
+        let words = [Word::Plain(b"horizon"), Word::Number(horizon as u64)];
+        put_words(out, &words)?;
+    }
+    Ok(())
+}
+
+// The shape of the log, and how many entries it has.
 fn put_header(out: &mut Vec<u8>, shape: Shape, count: usize) -> Result<(), AllocError>
     ensures { OnOk result (out.new.items ≡ out.old.items ++ line (codes "log" ∷ shape_words shape ++ codes "entries" ∷ decimal count ∷ [])) }
 {
-    if shape.version == 1 {
-        let words = [
-            Word::Plain(b"group"),
-            Word::Number(shape.group as u64),
-            Word::Plain(b"window"),
-            Word::Number(shape.window as u64),
-            Word::Plain(b"cap"),
-            Word::Number(shape.cap as u64),
-            Word::Plain(b"entries"),
-            Word::Number(count as u64),
-        ];
-        put_line(out, b"log", &words)
-    } else {
-        let words = [
-            Word::Plain(b"group"),
-            Word::Number(shape.group as u64),
-            Word::Plain(b"window"),
-            Word::Number(shape.window as u64),
-            Word::Plain(b"cap"),
-            Word::Number(shape.cap as u64),
-            Word::Plain(b"version"),
-            Word::Number(shape.version as u64),
-            Word::Plain(b"entries"),
-            Word::Number(count as u64),
-        ];
-        put_line(out, b"log", &words)
-    }
+    let cut = [
+        Word::Plain(b"group"),
+        Word::Number(shape.group as u64),
+        Word::Plain(b"window"),
+        Word::Number(shape.window as u64),
+        Word::Plain(b"cap"),
+        Word::Number(shape.cap as u64),
+    ];
+    let entries = [Word::Plain(b"entries"), Word::Number(count as u64)];
+    out.extend_from_slice(b"log")?;
+    put_words(out, &cut)?;
+    put_version(out, shape)?;
+    put_words(out, &entries)?;
+    out.push(b'\n')?;
+    Ok(())
 }
 
-/// The text of a log: its shape, and each entry in its line, from position 1 on. Of a log of version 2 the version is told
-/// behind the shape, and the isolation of each transaction at the end of its line. Where there is no shape, the device has
-/// no header, and the text is `empty`.
+/// The text of a log: its shape, and each entry in its line, from position 1 on. From version 2 on the version is told
+/// behind the cap, then the horizon of a log that has one, and the isolation of each transaction at the end of its line.
+/// Where there is no shape, the device has no header, and the text is `empty`.
 pub fn write_dump(
     alloc: Global,
     shape: Option<Shape>,

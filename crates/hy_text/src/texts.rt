@@ -33,8 +33,9 @@ fn put_word(out: &mut Vec<u8>, word: Word<'_>) -> Result<(), AllocError>
 }
 
 // Adds each word after a space.
-fn put_words(out: &mut Vec<u8>, words: &[Word<'_>]) -> Result<(), AllocError>
-    ensures { OnOk result (out.new.items ≡ out.old.items ++ spaced words.now) }
+#[tactic(auto, unfolding(crate::specs::LineWords::spaced))]
+pub(crate) fn put_words(out: &mut Vec<u8>, words: &[Word<'_>]) -> Result<(), AllocError>
+    ensures { OnOk result (out.new.items ≡ out.old.items ++ spaced (map word_text words.now)) }
 {
     for word in words {
         out.push(b' ')?;
@@ -165,6 +166,15 @@ pub(crate) fn put_verdict(out: &mut Vec<u8>, pos: u64, verdict: Verdict) -> Resu
     match verdict {
         Verdict::Commit => {
             let words = [Word::Number(pos), Word::Plain(b"commit")];
+            put_line(out, b"at", &words)
+        }
+        Verdict::Old { snap } => {
+            let words = [
+                Word::Number(pos),
+                Word::Plain(b"abort"),
+                Word::Plain(b"old"),
+                Word::Number(snap as u64),
+            ];
             put_line(out, b"at", &words)
         }
         Verdict::Pre(clash) => put_abort(out, pos, b"pre", clash),

@@ -29,6 +29,7 @@ pub const SHAPE: Shape = Shape {
     window: 1,
     cap: 16,
     version: 1,
+    horizon: None,
 };
 
 /// The same in version 2.
@@ -37,6 +38,7 @@ pub const SHAPE_2: Shape = Shape {
     window: 1,
     cap: 16,
     version: 2,
+    horizon: None,
 };
 
 /// The device of a log of that shape with so many one-page records of the put, at most nine, all but the first behind open

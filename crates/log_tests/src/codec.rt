@@ -291,6 +291,7 @@ const PAIRS: Shape = Shape {
     window: 1,
     cap: 8,
     version: 1,
+    horizon: None,
 };
 
 // The same in version 2.
@@ -299,6 +300,7 @@ const PAIRS_2: Shape = Shape {
     window: 1,
     cap: 8,
     version: 2,
+    horizon: None,
 };
 
 // Where the snapshot of these bytes is refused at a position of a log.

@@ -11,11 +11,30 @@ use hy_mem::MemDisk;
 use std::alloc::Global;
 use std::test::Fail;
 
+// Of version 3, with a horizon.
+const SHAPE_3: Shape = Shape {
+    group: 1,
+    window: 1,
+    cap: 16,
+    version: 3,
+    horizon: Some(2),
+};
+
+// The same with another horizon.
+const LONGER: Shape = Shape {
+    group: 1,
+    window: 1,
+    cap: 16,
+    version: 3,
+    horizon: Some(3),
+};
+
 const SMALL: Shape = Shape {
     group: 1,
     window: 1,
     cap: 1,
     version: 1,
+    horizon: None,
 };
 
 #[test]
@@ -48,6 +67,39 @@ fn one_put_of_version_2(rt: HostRuntime) -> Result<(), Fail> {
     Ok(())
 }
 
+// Entries of version 3 are spelled as those of version 2.
+#[test]
+fn a_log_keeps_its_horizon(rt: HostRuntime) -> Result<(), Fail> {
+    let alloc = rt.alloc();
+    let mut log = empty_log(alloc, SHAPE_3)?;
+    assert!(rt; append(&mut log, &PUT_2) == Some(Ok(1)));
+    let disk = close(log);
+    let head = b"GHYDERLOG\x03\x01\x01\x10\0\0\0\x02\0\0\0\0";
+    assert!(rt; disk.bytes().starts_with(head));
+    let other = look(alloc, disk, Some(LONGER));
+    assert!(rt;
+        other
+            == Err(OpenError::Config {
+                field: Field::Horizon,
+                log: 2,
+                asked: 3,
+            })
+    );
+    let version = look(alloc, close(empty_log(alloc, SHAPE_2)?), Some(SHAPE_3));
+    assert!(rt;
+        version
+            == Err(OpenError::Config {
+                field: Field::Version,
+                log: 2,
+                asked: 3,
+            })
+    );
+    let again = log_on(alloc, close(empty_log(alloc, SHAPE_3)?), SHAPE_3)?;
+    assert!(rt; again.len() == 0);
+    drop(again);
+    Ok(())
+}
+
 // The most bytes of a body, and one more, in each version.
 #[test]
 fn the_longest_body_goes_by_the_version(rt: HostRuntime) -> Result<(), Fail> {
@@ -57,6 +109,8 @@ fn the_longest_body_goes_by_the_version(rt: HostRuntime) -> Result<(), Fail> {
         (SHAPE, 18635, false),
         (SHAPE_2, 18635, true),
         (SHAPE_2, 18636, false),
+        (SHAPE_3, 18635, true),
+        (SHAPE_3, 18636, false),
     ] {
         let mut log = empty_log(alloc, shape)?;
         log.room(18689, 4)?;

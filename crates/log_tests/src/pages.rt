@@ -16,6 +16,7 @@ const SHAPE: Shape = Shape {
     window: 1,
     cap: 8,
     version: 1,
+    horizon: None,
 };
 
 // The same in version 2.
@@ -24,6 +25,16 @@ const SHAPE_2: Shape = Shape {
     window: 1,
     cap: 8,
     version: 2,
+    horizon: None,
+};
+
+// The same in version 3.
+const SHAPE_3: Shape = Shape {
+    group: 1,
+    window: 1,
+    cap: 8,
+    version: 3,
+    horizon: Some(258),
 };
 
 // Whether a page begins with these bytes, and is 0 behind them.
@@ -35,6 +46,8 @@ fn is_padded(page: &[u8], bytes: &[u8]) -> bool {
 fn writes_a_log_of_one_put(rt: HostRuntime) {
     assert!(rt; is_padded(&header_of(SHAPE), b"GHYDERLOG\x01\x01\x01\x08"));
     assert!(rt; is_padded(&header_of(SHAPE_2), b"GHYDERLOG\x02\x01\x01\x08"));
+    let third = b"GHYDERLOG\x03\x01\x01\x08\0\0\0\x02\x01";
+    assert!(rt; is_padded(&header_of(SHAPE_3), third));
     let mut rest = [0xff; 256];
     fill_page(&PUT, &mut rest);
     assert!(rt; has_body(&rest, [22, 0, 0, 0], &PUT));
@@ -106,15 +119,22 @@ fn read_cut(size: usize) -> Result<Shape, Damage> {
 
 #[test]
 fn headers_are_refused(rt: HostRuntime) {
-    let rows: [(&[(usize, u8)], Damage); 19] = [
+    let rows: [(&[(usize, u8)], Damage); 27] = [
         (&[(0, 0)], Damage::Gate),
         (&[(0, 0x46), (1, 0)], Damage::Gate),
         (&[(1, b'h')], Damage::Magic),
-        (&[(8, b'H'), (9, 3)], Damage::Magic),
+        (&[(8, b'H'), (9, 4)], Damage::Magic),
         (&[(9, 0)], Damage::Version),
-        (&[(9, 3), (10, 9)], Damage::Version),
+        (&[(9, 4), (10, 9)], Damage::Version),
         (&[(9, 2), (10, 9)], Damage::Shape),
         (&[(9, 2), (16, 1)], Damage::Fill),
+        (&[(9, 2), (19, 1)], Damage::Fill),
+        (&[(9, 3)], Damage::Shape),
+        (&[(9, 3), (20, 1)], Damage::Shape),
+        (&[(9, 3), (11, 3), (16, 2)], Damage::Shape),
+        (&[(9, 3), (16, 1), (19, 0x80)], Damage::Shape),
+        (&[(9, 3), (11, 3), (16, 3), (20, 1)], Damage::Fill),
+        (&[(9, 3), (16, 1), (255, 1)], Damage::Fill),
         (&[(10, 0)], Damage::Shape),
         (&[(10, 3)], Damage::Shape),
         (&[(10, 9)], Damage::Shape),
@@ -124,6 +144,7 @@ fn headers_are_refused(rt: HostRuntime) {
         (&[(15, 0x80)], Damage::Shape),
         (&[(10, 9), (16, 1)], Damage::Shape),
         (&[(16, 1)], Damage::Fill),
+        (&[(19, 1)], Damage::Fill),
         (&[(100, 1)], Damage::Fill),
         (&[(255, 1)], Damage::Fill),
     ];
@@ -131,6 +152,8 @@ fn headers_are_refused(rt: HostRuntime) {
         assert!(rt; read_header(&damaged(changes)) == Err(why));
     }
     assert!(rt; read_header(&damaged(&[(9, 2)])) == Ok(SHAPE_2));
+    let third = damaged(&[(9, 3), (16, 2), (17, 1)]);
+    assert!(rt; read_header(&third) == Ok(SHAPE_3));
     for (size, wanted) in [
         (256, Ok(SHAPE)),
         (255, Err(Damage::Short)),

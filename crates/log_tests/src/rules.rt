@@ -1,5 +1,5 @@
 //! The plain fold, on logs of a few sums.
-ghost use Rattle.std.specs.Prelude.{ℕ, IfOk};
+ghost use Rattle.std.specs.Prelude.{ℕ, None, IfOk};
 ghost use Rattle.hy_base.specs.Limits.{IsClientNumber};
 ghost use Rattle.hy_base.specs.Log.{HasLawfulSnap};
 
@@ -11,7 +11,7 @@ use std::test::Fail;
 // What adding 1 to key 7 leaves, on the empty snapshot.
 fn sum(alloc: Global, client: u8) -> Result<Entry, Fail>
     requires { IsClientNumber client }
-    ensures { IfOk result (λ e. (pos : ℕ) → HasLawfulSnap (record { group = 1; window = 1; cap = 8; version = 1 }) pos e) }
+    ensures { IfOk result (λ e. (pos : ℕ) → HasLawfulSnap (record { group = 1; window = 1; cap = 8; version = 1; horizon = None }) pos e) }
 {
     let value = Value::new(vec![in alloc; b'1']?).ok();
     Ok(Entry::transaction(Intention {
@@ -35,6 +35,7 @@ fn three_sums(alloc: Global) -> Result<Folded, Fail> {
         window: 1,
         cap: 8,
         version: 1,
+        horizon: None,
     };
     let folded = plain_fold(alloc, &entries, shape);
     drop(entries);

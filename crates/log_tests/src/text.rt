@@ -3,7 +3,7 @@ ghost use Rattle.std.specs.Prelude.{◌≡◌, None};
 
 use crate::entries::{letter, one_write};
 use hy_base::{
-    Clash, Entry, Intention, Isolation, Items, Row, Shape, Shared, Span, Verdict, Write,
+    Clash, Entry, Intention, Isolation, Items, Pos, Row, Shape, Shared, Span, Verdict, Write,
 };
 use hy_text::{memory_line, page_line, write_check, write_dump, write_summary};
 use std::alloc::{AllocError, Global};
@@ -41,6 +41,7 @@ const SHAPE: Shape = Shape {
     window: 3,
     cap: 64,
     version: 1,
+    horizon: None,
 };
 
 fn three_entries(alloc: Global) -> Result<Vec<Entry>, Fail> {
@@ -49,19 +50,42 @@ fn three_entries(alloc: Global) -> Result<Vec<Entry>, Fail> {
     Ok(vec![in alloc; first, Entry::filler(4), last]?)
 }
 
-fn dump_of_three(alloc: Global) -> Result<Vec<u8>, Fail> {
+// The dump of these entries in a log of a version.
+fn dump_of_three(alloc: Global, version: u8, horizon: Option<Pos>) -> Result<Vec<u8>, Fail> {
     let entries = three_entries(alloc)?;
-    let dump = write_dump(alloc, Some(SHAPE), &entries);
+    let shape = Shape {
+        version,
+        horizon,
+        ..SHAPE
+    };
+    let dump = write_dump(alloc, Some(shape), &entries);
     drop(entries);
     Ok(dump?)
 }
 
 #[test]
 fn a_log_with_an_open_group_is_dumped(rt: HostRuntime) -> Result<(), Fail> {
-    let dump = dump_of_three(rt.alloc())?;
-    let wanted =
-        "log group 2 window 3 cap 64 entries 3\nentry 1 server 8 client 128 snap 7 points 1 spans 2 writes 3\nentry 2 server 4 filler\nentry 3 server 1 client 1 snap 0 points 0 spans 0 writes 1\n".as_bytes();
-    assert!(rt; dump.as_slice() == wanted);
+    let rows = [
+        (
+            1,
+            None,
+            "log group 2 window 3 cap 64 entries 3\nentry 1 server 8 client 128 snap 7 points 1 spans 2 writes 3\nentry 2 server 4 filler\nentry 3 server 1 client 1 snap 0 points 0 spans 0 writes 1\n",
+        ),
+        (
+            2,
+            None,
+            "log group 2 window 3 cap 64 version 2 entries 3\nentry 1 server 8 client 128 snap 7 points 1 spans 2 writes 3 iso 0\nentry 2 server 4 filler\nentry 3 server 1 client 1 snap 0 points 0 spans 0 writes 1 iso 0\n",
+        ),
+        (
+            3,
+            Some(2147483648),
+            "log group 2 window 3 cap 64 version 3 horizon 2147483648 entries 3\nentry 1 server 8 client 128 snap 7 points 1 spans 2 writes 3 iso 0\nentry 2 server 4 filler\nentry 3 server 1 client 1 snap 0 points 0 spans 0 writes 1 iso 0\n",
+        ),
+    ];
+    for (version, horizon, wanted) in rows {
+        let dump = dump_of_three(rt.alloc(), version, horizon)?;
+        assert!(rt; dump.as_slice() == wanted.as_bytes(), "version {version}");
+    }
     Ok(())
 }
 
@@ -71,10 +95,20 @@ fn check_of_three(alloc: Global, verdicts: &[Option<Verdict>]) -> Result<Vec<u8>
 
 #[test]
 fn an_open_group_waits(rt: HostRuntime) -> Result<(), Fail> {
-    let refused = Some(Verdict::Pre(Clash { key: 1, by: 7 }));
-    let check = check_of_three(rt.alloc(), &[refused, None])?;
-    let wanted = "at 1 abort pre 1 by 7\nat 2 filler\nat 3 waits\nstate 2 rows 0\n".as_bytes();
-    assert!(rt; check.as_slice() == wanted);
+    let rows = [
+        (
+            Verdict::Pre(Clash { key: 1, by: 7 }),
+            "at 1 abort pre 1 by 7\nat 2 filler\nat 3 waits\nstate 2 rows 0\n",
+        ),
+        (
+            Verdict::Old { snap: 2147483640 },
+            "at 1 abort old 2147483640\nat 2 filler\nat 3 waits\nstate 2 rows 0\n",
+        ),
+    ];
+    for (verdict, wanted) in rows {
+        let check = check_of_three(rt.alloc(), &[Some(verdict), None])?;
+        assert!(rt; check.as_slice() == wanted.as_bytes());
+    }
     Ok(())
 }
 

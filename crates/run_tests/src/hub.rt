@@ -205,6 +205,7 @@ pub const SHAPE: Shape = Shape {
     window: 1,
     cap: 8,
     version: 1,
+    horizon: None,
 };
 
 const PAIRS: Shape = Shape {
@@ -212,6 +213,7 @@ const PAIRS: Shape = Shape {
     window: 1,
     cap: 8,
     version: 1,
+    horizon: None,
 };
 
 const FOURS: Shape = Shape {
@@ -219,6 +221,7 @@ const FOURS: Shape = Shape {
     window: 1,
     cap: 8,
     version: 1,
+    horizon: None,
 };
 
 /// Groups of five.
@@ -227,6 +230,7 @@ pub const FIVES: Shape = Shape {
     window: 1,
     cap: 10,
     version: 1,
+    horizon: None,
 };
 
 const SMALL: Shape = Shape {
@@ -234,6 +238,7 @@ const SMALL: Shape = Shape {
     window: 1,
     cap: 1,
     version: 1,
+    horizon: None,
 };
 
 /// The client's next program begins, and puts a byte.

@@ -1,8 +1,8 @@
 //! Small logs, rolled whole and in every cut.
 ghost use Rattle.std.specs.Prelude.{◌≡◌, ◌%◌, ◌≤◌, IfOk};
-ghost use Rattle.hy_base.specs.Shape.{IsGoodShape, IsWithin};
+ghost use Rattle.hy_base.specs.Shape.{IsGoodShape, IsWithin, before_horizon};
 ghost use Rattle.hy_base.specs.Limits.{IsThreadCount};
-ghost use Rattle.hy_base.specs.Rows.{Each};
+ghost use Rattle.hy_base.specs.Rows.{Agrees, Each};
 ghost use Rattle.hy_formats.specs.Checkpoint.{base_behind};
 
 use crate::tree::{value, writer};
@@ -84,19 +84,38 @@ fn further<R: Threads + Sync, G: Gate + Sync>(
     Ok(roll(roller, rt, alloc, entries, threads, gate)?)
 }
 
-fn shape(group: u8, window: u8, cap: Pos) -> Result<Shape, Fail>
+fn checked(shape: Shape) -> Result<Shape, Fail>
     ensures { IfOk result IsGoodShape }
 {
-    let shape = Shape {
-        group,
-        window,
-        cap,
-        version: 1,
-    };
     match shape.check() {
         Ok(()) => Ok(shape),
         Err(_) => Err(Fail::new("the shape is refused")),
     }
+}
+
+fn shape(group: u8, window: u8, cap: Pos) -> Result<Shape, Fail>
+    ensures { IfOk result IsGoodShape }
+{
+    checked(Shape {
+        group,
+        window,
+        cap,
+        version: 1,
+        horizon: None,
+    })
+}
+
+// Groups of one, windows of one, and a horizon.
+fn shape_with(horizon: Pos) -> Result<Shape, Fail>
+    ensures { IfOk result IsGoodShape }
+{
+    checked(Shape {
+        group: 1,
+        window: 1,
+        cap: 8,
+        version: 3,
+        horizon: Some(horizon),
+    })
 }
 
 // The entries rolled from the first one on.
@@ -170,17 +189,17 @@ fn early(key: Key, by: Pos) -> Option<Verdict> {
 
 const COMMIT: Option<Verdict> = Some(Verdict::Commit);
 
-// Whether a log of a shape with room for 8 has these verdicts, and leaves these rows.
+// Whether a log has these verdicts, and leaves these rows.
 fn decides<R: Threads + Sync>(
     rt: &R,
     alloc: Global,
-    group: u8,
-    window: u8,
+    shape: Shape,
     items: &[Item],
     verdicts: &[Option<Verdict>],
     rows: &[(Key, Pos, bool)],
-) -> Result<bool, Fail> {
-    let shape = shape(group, window, 8)?;
+) -> Result<bool, Fail>
+    requires { IsGoodShape shape }
+{
     let roller = rolled_log(rt, alloc, shape, items, &OpenGate)?;
     let decides = tells(&roller, verdicts) && has(roller.tree(), rows) && bounds(&roller, 0);
     drop(roller);
@@ -198,7 +217,39 @@ fn bounds(roller: &Roller, from: Pos) -> bool {
 fn later_sums_abort(rt: HostRuntime) -> Result<(), Fail> {
     let verdicts = [COMMIT, last(7, 1), early(7, 1)];
     let rows = [(7, 1, true)];
-    assert!(rt; decides(&rt, rt.alloc(), 1, 1, &[SUM, SUM, SUM], &verdicts, &rows)?);
+    let shape = shape(1, 1, 8)?;
+    assert!(rt; decides(&rt, rt.alloc(), shape, &[SUM, SUM, SUM], &verdicts, &rows)?);
+    Ok(())
+}
+
+// Key 15 is put, and deleted.
+const PUT: Item = Some((0, 15, 15, 15, ONE));
+
+const DELETE: Item = Some((1, 15, 15, 15, None));
+
+// A scan on the empty snapshot.
+const SCAN: Item = Some((0, 10, 20, 100, ONE));
+
+#[test]
+fn a_horizon_makes_a_snapshot_too_old(rt: HostRuntime) -> Result<(), Fail> {
+    let log = [PUT, DELETE, SCAN];
+    let old = [COMMIT, COMMIT, Some(Verdict::Old { snap: 0 })];
+    let near = shape_with(1)?;
+    assert!(rt; decides(&rt, rt.alloc(), near, &log, &old, &[])?);
+    let clash = [COMMIT, COMMIT, early(15, 1)];
+    let far = shape_with(2)?;
+    assert!(rt; decides(&rt, rt.alloc(), far, &log, &clash, &[(15, 2, false)])?);
+    Ok(())
+}
+
+#[test]
+fn an_old_deletion_is_left_out(rt: HostRuntime) -> Result<(), Fail> {
+    let log = [PUT, DELETE, Some((2, 1, 1, 1, ONE))];
+    let near = shape_with(1)?;
+    assert!(rt; decides(&rt, rt.alloc(), near, &log, &[COMMIT; 3], &[(1, 3, true)])?);
+    let far = shape_with(2)?;
+    let rows = [(1, 3, true), (15, 2, false)];
+    assert!(rt; decides(&rt, rt.alloc(), far, &log, &[COMMIT; 3], &rows)?);
     Ok(())
 }
 
@@ -490,6 +541,7 @@ fn start_of(shape: Shape, roller: &Roller) -> Result<(Tree, Pos, Pos), Fail>
     ensures within { IfOk result (λ p. p.2 ≤ shape.cap) }
     ensures base { IfOk result (λ p. p.1 ≡ base_behind shape p.2) }
     ensures rows { IfOk result (λ p. Each (λ r. IsWithin 1 (base_behind shape p.2) r.writer) p.0) }
+    ensures left { IfOk result (λ p. Agrees (before_horizon shape.horizon (base_behind shape p.2)) p.0 p.0) }
 {
     let at = roller.at();
     let rows = roller.base_tree().share()?;

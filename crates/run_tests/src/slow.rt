@@ -289,6 +289,7 @@ const ONE_PAIR: Shape = Shape {
     window: 1,
     cap: 2,
     version: 1,
+    horizon: None,
 };
 
 #[test]

@@ -12,6 +12,7 @@ fn a_stopped_log_goes_on(rt: HostRuntime) -> Result<(), Fail> {
         window: 1,
         cap: 8,
         version: 1,
+        horizon: None,
     };
     let mut log = MemLog::new(alloc, shape)?;
     log.append(&[7; 60], 2)?;
