@@ -12,6 +12,8 @@ use Rattle.hy_hub.specs.Flights.{are_appends}
 use Rattle.hy_hub.specs.Trace.{flight_of}
 use Rattle.hy_hist.proofs.Lists.{prefix_self}
 use Rattle.hy_hub.proofs.Alone.{landed_of_lift, home_alone, leaves_alone}
+use Rattle.hy_hub.proofs.Waiting.{waits_unclaimed, comes_twice, same_waits}
+use Rattle.hy_hub.specs.Shown.{NobodyComes}
 use Rattle.hy_hub.proofs.hub.Hub.land_others.Goals as goal
 
 pub land_written-requires-clause-flown : goal.land_written-requires-clause-flown
@@ -68,6 +70,7 @@ returns-then-not-goes_on g c =
         parts = p.kept.1 ∙ h.kept.1;
       };
       makes = done_lift c.hold-contents.new.pass c.come_home.new.pass longer c.args.flight.lift at.0 at.1 p.order ∙ same_done c.args.pass.now c.hold-contents.new.pass h.made;
+      claim = p.claim;
       last = λ e. refl;
       alone = λ is from lifted led.
           let own = rw h.list at lands in
@@ -122,3 +125,13 @@ returns-clause-alone g c = λ is from lifted led.
     let longer = subst (λ (l : List Occurrence). IsPrefix home l) (sym p.seen) lifts in
     let r = home_alone from (Some c.args.flight.lift) (Some c.args.flight.lift) c.args.pass.now c.hold-contents.new.pass c.come_home-2.new.pass own.0 home whole h.made p.made longer own.1 (λ k e. e) (landed_of_lift c.args.at c.hold-contents.new.pass.seen own.0 are own.2) lifted led in
     (r.0, leaves_alone g.D.Disk.tells (LeavesSince g.D.Disk.moment g.D.Disk.left_since g.B.Since.moment g.B.Since.left) g.B.Since.least g.D.Disk.faults_of c.args.self.now c.lift_again-lifted.result home c.come_home-2.new.pass from (leaves_is g.D.Disk.tells (LeavesSince g.D.Disk.moment g.D.Disk.left_since g.B.Since.moment g.B.Since.left) g.B.Since.least g.D.Disk.faults_of c.args.self.now c.lift_again-lifted.result c.come_home-2.new.pass home c.lift_again-lifted.new.self.list (p.kept.0 ∙ (h.kept.0 ∙ c.requires.pass.0)) p.idle landed p.seen p.carries c.lift_again-lifted.ensures.lifts) r.1)
+
+pub come_home-requires-clause-waits : goal.come_home-requires-clause-waits
+come_home-requires-clause-waits g c =
+    let h = c.hold-contents.ensures in
+    waits_unclaimed _ _ _ _ (subst (λ ns. NobodyComes ns c.land_written.new.self.waiting) h.waiting c.land_written.ensures.waits) (h.claim ∙ c.requires.claim)
+
+pub come_home-requires-2-clause-waits : goal.come_home-requires-2-clause-waits
+come_home-requires-2-clause-waits g c =
+    let h = c.hold-contents.ensures in
+    waits_unclaimed _ _ _ _ (comes_twice _ _ _ (subst (λ ns. NobodyComes ns c.land_written.new.self.waiting) h.waiting c.land_written.ensures.waits) (same_waits _ _ c.lift_again-lifted.ensures.waits)) (h.claim ∙ c.requires.claim)
