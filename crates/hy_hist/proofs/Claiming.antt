@@ -1,6 +1,6 @@
 -- Who waits in the content is claimed by a pass.
-use Rattle.std.proofs.Common.{◌≡◌, ◌≢◌, ◌⊎◌, ℕ, List, [], ◌∷◌, ◌++◌, set, refl, sym, ap, ◌∙◌, inl, inr, ⊎_elim}
-use Rattle.std.specs.Prelude.{Option, Some, None}
+use Rattle.std.proofs.Common.{◌≡◌, ◌≢◌, ℕ, List, [], ◌∷◌, ◌++◌, set, refl, sym, ap, ◌∙◌, inl, ⊎_elim}
+use Rattle.std.specs.Prelude.{Some, None}
 use mathlib.Core.Option.{some, some-injective}
 use mathlib.Core.Logic.{dite}
 use native.Mathlib.Decide.{ℕ_discrete}
@@ -43,10 +43,10 @@ module _ {T : Type 0} where
   pub all_own : (views : List (PassView T)) (waiting : List ℕ) (id : ℕ) (v : PassView T) → get_elem? views id ≡ some v → ((j : ℕ) (u : PassView T) → get_elem? views j ≡ some u → j ≢ id → u.claim ≡ None) → AreClaimed views waiting → AreOwn v.claim waiting
   all_own views waiting id v at others claimed = record {
     each = λ n among.
-    let c = claimed n among in
-    dite (ℕ_discrete id c.claimer)
-    (λ here. is_claimer views n c id v at here)
-    (λ away. absurd (cc (sym (others c.claimer c.view c.at (λ k. away (sym k))) ∙ c.claims)));
+        let c = claimed n among in
+        dite (ℕ_discrete id c.claimer)
+        (λ here. is_claimer views n c id v at here)
+        (λ away. absurd (cc (sym (others c.claimer c.view c.at (λ k. away (sym k))) ∙ c.claims)));
   }
 
 pub nobody : (waiting : List ℕ) → ((n : ℕ) → IsAmong n waiting → ⊥) → waiting ≡ []

@@ -1,5 +1,5 @@
 -- Who waits, as entries come and go.
-use Rattle.std.proofs.Common.{◌≡◌, ◌≢◌, ◌≤◌, ◌⊎◌, ℕ, zero, suc, ◌+◌, Bool, true, false, List, [], ◌∷◌, ◌++◌, take, drop, map, length, Option, Some, None, refl, sym, ap, ◌∙◌, subst, inl, inr, ⊎_elim, arith}
+use Rattle.std.proofs.Common.{◌≡◌, ◌≢◌, ◌≤◌, ◌⊎◌, ℕ, zero, suc, ◌+◌, Bool, true, false, List, [], ◌∷◌, ◌++◌, take, drop, length, Option, Some, None, refl, sym, ap, ◌∙◌, subst, inl, inr, ⊎_elim, arith}
 use Rattle.std.specs.Prelude.{slice_get, is_some}
 use Rattle.std.specs.List.{AllByRecursion}
 use Rattle.hy_base.specs.Lists.{nth}
@@ -15,7 +15,7 @@ use Rattle.hy_log.specs.Pipelined.{PipeView}
 use Rattle.hy_hub.specs.declared.occurrence.Batch.{Batch}
 use Rattle.hy_hub.specs.declared.occurrence.Batch.TheVariants.{Appends, Fillers}
 use Rattle.hy_hub.specs.Hub.{IsAskedOf, IsFlight, IsPlaced, halt_in}
-use Rattle.hy_hub.specs.Shown.{Shown, clients_of, NobodyComes, NobodyElseComes, IsAbsent, IsClaimOf, WaitAfter}
+use Rattle.hy_hub.specs.Shown.{clients_of, NobodyComes, NobodyElseComes, IsAbsent, IsClaimOf, WaitAfter}
 use Rattle.hy_hub.specs.declared.request.Ticket.{Ticket}
 use Rattle.hy_hub.specs.declared.request.Ticket.TheVariants.{Waits as StillWaits}
 use Rattle.hy_hub.specs.declared.step.AppendStep.{AppendStep}

@@ -1,5 +1,5 @@
 -- What a contract sees of the hub's contents, and who waits in them.
-use Rattle.std.specs.Prelude.{◌≡◌, ◌⊎◌, ℕ, List, map, Option, None, Some, ⊤}
+use Rattle.std.specs.Prelude.{◌≡◌, ◌⊎◌, ℕ, List, map, Option, Some}
 use Rattle.hy_hist.specs.Passes.{IsAmong}
 use Rattle.hy_hub.specs.declared.occurrence.Occurrence.{Occurrence}
 use Rattle.hy_hub.specs.declared.step.AppendStep.{AppendStep}

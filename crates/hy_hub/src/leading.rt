@@ -100,14 +100,7 @@ impl<D: Disk, B: Since> Hub<D, B> {
             return None;
         };
         let lifted = contents.lift_again();
-        self.come_home(
-            pass,
-            contents,
-            Some(place),
-            None,
-            &woken,
-            lifted.is_none(),
-        );
+        self.come_home(pass, contents, Some(place), None, &woken, lifted.is_none());
         Some((at, lifted))
     }
 
