@@ -104,6 +104,7 @@ fn finished<D: Disk, B: Since>(
         entries: _,
         rollers,
         occurrences: _,
+        waiting: _,
     } = closed;
     if log.stopped().is_some() {
         return Err(break_off(log));

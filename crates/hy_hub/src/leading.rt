@@ -1,12 +1,13 @@
 //! Calls that lead: they write batches outside the turn, put the device back, and lift it again.
 ghost use Rattle.hy_hub.specs.declared.occurrence.AppendRefusal.TheVariants as AppendRefusal;
-ghost use Rattle.std.specs.Prelude.{◌≡◌, ◌≢◌, ◌⊎◌, ◌↔◌, ℕ, ◌<◌, ◌^◌, length, true, false, None, Some, Ok, Err, IfSome, slice_get};
+ghost use Rattle.std.specs.Prelude.{◌≡◌, ◌≢◌, ◌⊎◌, ◌↔◌, ℕ, ◌<◌, ◌^◌, length, true, false, None, Some, Ok, Err, IfSome, slice_get, is_some, if◌then◌else◌};
 ghost use mathlib.Core.List.{IsPrefix};
 ghost use Rattle.hy_disk.specs.Moments.{LeavesSince};
-ghost use Rattle.hy_hist.specs.Passes.{with_mine, made, Makes};
+ghost use Rattle.hy_hist.specs.Passes.{with_mine, made, Makes, WaitByClaim};
 ghost use Rattle.hy_hub.specs.Trace.{flight_of, is_out};
 ghost use Rattle.hy_hub.specs.Hub.{IsHubHistory};
-ghost use Rattle.hy_hub.specs.Calls.{OwnTurn, IsIdle, done_by, AppendDoes, is_declared_client};
+ghost use Rattle.hy_hub.specs.Calls.{OwnTurn, IsFree, IsIdle, done_by, AppendDoes, is_declared_client};
+ghost use Rattle.hy_hub.specs.HoldSteps.{claim_flown};
 ghost use Rattle.hy_hub.specs.Flights.{IsOutWith, IsFlownOf, are_appends};
 ghost use Rattle.hy_hub.specs.Holds.{FailsAfter, KeepsMade, IsCarrier, HasLanded, LandsOwn, IsLiftAt, LedOn, LeadsOn, MayLeadOn, Flies, LeadsStill, lift_of, lift_found};
 
@@ -41,26 +42,29 @@ impl<D: Disk, B: Since> Hub<D, B> {
         pass: &mut Pass<Contents<D, B>>,
         contents: Contents<D, B>,
         mine: Option<u64>,
+        claim: Option<u64>,
         woken: &Woken,
         is_home: bool,
     )
         requires lock { pass.old.lock ≡ self.now.name }
         requires holds { pass.old.holds ≡ true }
         requires carries { pass.old.carries ≡ true }
-        requires grown { IsPrefix pass.old.seen contents }
-        requires short { length contents < 2 ^ 64 }
-        requires mine { IfSome mine (λ k. k < length contents) }
-        ensures seen { pass.new.seen ≡ contents }
+        requires grown { IsPrefix pass.old.seen contents.list }
+        requires short { length contents.list < 2 ^ 64 }
+        requires mine { IfSome mine (λ k. k < length contents.list) }
+        requires waits { WaitByClaim pass.old.waiting pass.old.claim claim contents.waiting }
+        ensures seen { pass.new.seen ≡ contents.list }
         ensures told { IsHubHistory pass.new.seen }
         ensures order { made pass.new ≡ with_mine mine pass.new.seen (made pass.old) }
         ensures made { (k : ℕ) (x : _) → Makes pass.new k x ↔ (Makes pass.old k x ⊎ ((mine ≡ Some k) × (slice_get pass.new.seen k ≡ Some x))) }
         ensures kept { (pass.new.lock ≡ pass.old.lock) × (pass.new.parts ≡ pass.old.parts) }
-        ensures carries { pass.new.carries ≡ is_out contents }
+        ensures carries { pass.new.carries ≡ is_out contents.list }
+        ensures claim { pass.new.claim ≡ claim }
         ensures idle { pass.new.holds ≡ false }
     {
         self.places.note_next(&woken.concerned, is_home);
         contents.is_told();
-        self.lock.give(pass, contents, mine);
+        self.lock.give(pass, contents, mine, claim);
         self.places
             .notify_landed(&woken.concerned, woken.first, is_home);
     }
@@ -80,8 +84,10 @@ impl<D: Disk, B: Since> Hub<D, B> {
         requires client { is_declared_client request.now.client pass.old.seen }
         requires flown { IsFlownOf D.tells D.content (LeavesSince D.moment D.left_since B.moment B.left) B.least D.faults_of pass.old.seen log (Ok at) }
         requires appends { are_appends (flight_of pass.old.seen) ≡ true }
+        requires claim { pass.old.claim ≡ Some request.now.client }
         ensures lands { LandsOwn D.tells (LeavesSince D.moment D.left_since B.moment B.left) B.least D.faults_of self.now request.now since result pass.old pass.new }
         ensures alone { LeadsStill self.now.parts None (lift_found result) pass.old pass.new }
+        ensures claim { pass.new.claim ≡ (if is_some result then None else Some request.now.client) }
     {
         let mut contents = self.lock.hold(rt, pass);
         let concerned = contents.concerned(log.laid_len());
@@ -89,11 +95,12 @@ impl<D: Disk, B: Since> Hub<D, B> {
         let woken = Woken { concerned, first };
         contents.land_written(log, at);
         let Some((place, at)) = contents.appended(request, since) else {
-            self.come_home(pass, contents, None, &woken, true);
+            let claim = Some(u64::from(request.client()));
+            self.come_home(pass, contents, None, claim, &woken, true);
             return None;
         };
         let lifted = contents.lift_again();
-        self.come_home(pass, contents, Some(place), &woken, lifted.is_none());
+        self.come_home(pass, contents, Some(place), None, &woken, lifted.is_none());
         Some((at, lifted))
     }
 
@@ -112,8 +119,10 @@ impl<D: Disk, B: Since> Hub<D, B> {
         requires flown { IsFlownOf D.tells D.content (LeavesSince D.moment D.left_since B.moment B.left) B.least D.faults_of pass.old.seen flight.log (Ok at) }
         requires appends { are_appends (flight_of pass.old.seen) ≡ true }
         requires lift { IsLiftAt flight.lift pass.old.seen }
+        requires claim { pass.old.claim ≡ None }
         ensures lands { HasLanded D.tells (LeavesSince D.moment D.left_since B.moment B.left) B.least D.faults_of self.now result pass.old pass.new }
         ensures makes { done_by pass.new ≡ done_by pass.old }
+        ensures claim { pass.new.claim ≡ None }
         ensures last { goes_on ≡ false → result ≡ None }
         ensures alone { LeadsStill self.now.parts (Some flight.lift) (lift_of result) pass.old pass.new }
     {
@@ -124,11 +133,11 @@ impl<D: Disk, B: Since> Hub<D, B> {
         let woken = Woken { concerned, first };
         contents.land_written(log, at);
         if !goes_on {
-            self.come_home(pass, contents, Some(lift), &woken, true);
+            self.come_home(pass, contents, Some(lift), None, &woken, true);
             return None;
         }
         let lifted = contents.lift_again();
-        self.come_home(pass, contents, Some(lift), &woken, lifted.is_none());
+        self.come_home(pass, contents, Some(lift), None, &woken, lifted.is_none());
         lifted
     }
 
@@ -143,14 +152,16 @@ impl<D: Disk, B: Since> Hub<D, B> {
         requires pass { IsCarrier self.now pass.old }
         requires flown { IsFlownOf D.tells D.content (LeavesSince D.moment D.left_since B.moment B.left) B.least D.faults_of pass.old.seen flight.log (Err failed) }
         requires lift { IsLiftAt flight.lift pass.old.seen }
+        requires claim { pass.old.claim ≡ None }
         ensures led { LedOn self.now pass.old pass.new }
+        ensures claim { pass.new.claim ≡ None }
         ensures alone { LeadsStill self.now.parts (Some flight.lift) None pass.old pass.new }
     {
         let Flight { log, lift } = flight;
         let mut contents = self.lock.hold(rt, pass);
         contents.land_failed(log, failed);
         contents.is_told();
-        self.lock.give(pass, contents, Some(lift));
+        self.lock.give(pass, contents, Some(lift), None);
         self.places.notify_all();
     }
 
@@ -166,6 +177,7 @@ impl<D: Disk, B: Since> Hub<D, B> {
         requires pass { IsCarrier self.now pass.old }
         requires client { is_declared_client request.now.client pass.old.seen }
         requires flown { IsFlownOf D.tells D.content (LeavesSince D.moment D.left_since B.moment B.left) B.least D.faults_of pass.old.seen log (Err failed) }
+        requires claim { pass.old.claim ≡ Some request.now.client }
         ensures refused { OwnTurn pass.old pass.new (AppendDoes request.now.client request.now.number request.now.entry (Err result)) }
         ensures cause { FailsAfter pass.old.seen pass.new.seen × KeepsMade pass.old pass.new × ((at : ℕ) → result ≢ AppendRefusal.Stopped at) }
         ensures alone { LeadsStill self.now.parts None None pass.old pass.new }
@@ -176,7 +188,7 @@ impl<D: Disk, B: Since> Hub<D, B> {
         contents.land_failed(log, failed);
         let (refusal, own) = contents.fail(request, len);
         contents.is_told();
-        self.lock.give(pass, contents, own);
+        self.lock.give(pass, contents, own, None);
         self.places.notify_all();
         refusal
     }
@@ -194,7 +206,9 @@ impl<D: Disk, B: Since> Hub<D, B> {
         requires out { IsOutWith D.tells (LeavesSince D.moment D.left_since B.moment B.left) B.least D.faults_of pass.old.seen flight.log }
         requires appends { are_appends (flight_of pass.old.seen) ≡ true }
         requires lift { IsLiftAt flight.lift pass.old.seen }
+        requires claim { pass.old.claim ≡ None }
         ensures led { LeadsOn D.tells (LeavesSince D.moment D.left_since B.moment B.left) B.least D.faults_of self.now result pass.old pass.new }
+        ensures claim { pass.new.claim ≡ None }
         ensures alone { LeadsStill self.now.parts (Some flight.lift) (lift_of result) pass.old pass.new }
         ensures last { goes_on ≡ false → result ≡ None }
     {
@@ -217,8 +231,10 @@ impl<D: Disk, B: Since> Hub<D, B> {
         leader: u8,
     )
         requires told { IsHubHistory pass.old.seen }
+        requires claim { pass.old.claim ≡ None }
         requires leaves { MayLeadOn D.tells (LeavesSince D.moment D.left_since B.moment B.left) B.least D.faults_of self.now lifted pass.old }
         ensures led { LedOn self.now pass.old pass.new }
+        ensures claim { pass.new.claim ≡ None }
         ensures alone { LeadsStill self.now.parts (lift_of lifted) None pass.old pass.new }
     {
         let mut lifted = lifted;
@@ -252,9 +268,11 @@ impl<D: Disk, B: Since> Hub<D, B> {
         requires client { is_declared_client request.now.client pass.old.seen }
         requires out { IsOutWith D.tells (LeavesSince D.moment D.left_since B.moment B.left) B.least D.faults_of pass.old.seen flight.log }
         requires appends { are_appends (flight_of pass.old.seen) ≡ true }
+        requires claim { pass.old.claim ≡ Some request.now.client }
         ensures flies { Flies self.now request.now since result pass.old pass.new }
         ensures alone { LeadsStill self.now.parts None None pass.old pass.new }
-        ensures kept { IsIdle self.now pass.new × (pass.new.parts ≡ pass.old.parts) }
+        ensures kept { IsFree self.now pass.new × (pass.new.parts ≡ pass.old.parts) }
+        ensures claim { pass.new.claim ≡ claim_flown request.now.client result }
     {
         self.places.note_lift();
         let Flight { mut log, lift: _ } = flight;
