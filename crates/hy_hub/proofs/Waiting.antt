@@ -130,8 +130,8 @@ none_flies (Some (Fillers server count lifted)) entries cap waiting flying is re
 
 -- a log that stopped is home
 pub stopped_home : {D : Type 0} (tells : Bool) (content : D → Content) (leaves : D → (List ℕ → Type 0) → Type 0) (least : ℕ) (faults : D → ℕ) (opened : ℕ) (shape : Shape) (failed : List EntryKind) (flight : Option Batch) (log : Option (PipeView D)) (entries : List EntryKind)
-    → IsPlaced tells content leaves least faults opened shape failed flight log entries → (at : ℕ) → halt_in log ≡ Some at → is_some flight ≡ false
-stopped_home tells content leaves least faults opened shape failed None None entries placed at halted = refl
-stopped_home tells content leaves least faults opened shape failed None (Some log) entries placed at halted = refl
-stopped_home tells content leaves least faults opened shape failed (Some batch) None entries placed at halted = absurd (cc halted)
-stopped_home tells content leaves least faults opened shape failed (Some batch) (Some log) entries placed at halted = absurd placed
+    → IsPlaced tells content leaves least faults opened shape failed flight log entries → halt_in log ≢ None → is_some flight ≡ false
+stopped_home tells content leaves least faults opened shape failed None None entries placed halted = refl
+stopped_home tells content leaves least faults opened shape failed None (Some log) entries placed halted = refl
+stopped_home tells content leaves least faults opened shape failed (Some batch) None entries placed halted = absurd (halted refl)
+stopped_home tells content leaves least faults opened shape failed (Some batch) (Some log) entries placed halted = absurd placed

@@ -1,7 +1,9 @@
 -- What a contract sees of the hub's contents, and who waits in them.
 use Rattle.std.specs.Prelude.{◌≡◌, ◌⊎◌, ℕ, List, map, Option, Some}
 use Rattle.hy_hist.specs.Passes.{IsAmong}
+use Rattle.hy_base.specs.declared.workload.Event.TheVariants.{Append}
 use Rattle.hy_hub.specs.declared.occurrence.Occurrence.{Occurrence}
+use Rattle.hy_hub.specs.declared.occurrence.Occurrence.TheVariants.{Opened, Happened, Halted, Lifted, Landed}
 use Rattle.hy_hub.specs.declared.step.AppendStep.{AppendStep}
 use Rattle.hy_hub.specs.declared.step.AppendStep.TheVariants.{Answered, Leads, Waits}
 use Rattle.hy_hub.specs.Entries.{Asked}
@@ -35,3 +37,11 @@ abbrev pub WaitAfter : {D : Type 0} → ℕ → AppendStep D → List ℕ → Li
 WaitAfter client (Answered answer own) before now = NobodyComes before now × IsAbsent client now
 WaitAfter client (Leads flight since) before now = NobodyElseComes client before now
 WaitAfter client Waits before now = NobodyElseComes client before now
+
+-- an event is that of an entry of a client who waits
+abbrev pub IsWaitedFor : List ℕ → Occurrence → Type 0
+IsWaitedFor waiting (Opened o) = ⊥
+IsWaitedFor waiting (Happened event added) = (client : ℕ) × (event ≡ Append client) × IsAmong client waiting
+IsWaitedFor waiting (Halted at risen) = ⊥
+IsWaitedFor waiting (Lifted batch) = ⊥
+IsWaitedFor waiting Landed = ⊥

@@ -1,13 +1,14 @@
 //! Calls that lead: they write batches outside the turn, put the device back, and lift it again.
 ghost use Rattle.hy_hub.specs.declared.occurrence.AppendRefusal.TheVariants as AppendRefusal;
-ghost use Rattle.std.specs.Prelude.{◌≡◌, ◌≢◌, ◌⊎◌, ◌↔◌, ℕ, ◌<◌, ◌^◌, length, true, false, None, Some, Ok, Err, IfSome, slice_get, is_some, if◌then◌else◌};
+ghost use Rattle.std.specs.Prelude.{◌≡◌, ◌≢◌, ◌⊎◌, ◌↔◌, ℕ, Option, ◌<◌, ◌^◌, length, true, false, None, Some, Ok, Err, IfSome, IfErr, slice_get, is_some, if◌then◌else◌};
 ghost use mathlib.Core.List.{IsPrefix};
 ghost use Rattle.hy_disk.specs.Moments.{LeavesSince};
 ghost use Rattle.hy_hist.specs.Passes.{with_mine, made, Makes, WaitByClaim};
 ghost use Rattle.hy_hub.specs.Trace.{flight_of, is_out};
 ghost use Rattle.hy_hub.specs.Hub.{IsHubHistory};
 ghost use Rattle.hy_hub.specs.Calls.{OwnTurn, IsFree, IsIdle, done_by, AppendDoes, is_declared_client};
-ghost use Rattle.hy_hub.specs.HoldSteps.{claim_flown};
+ghost use Rattle.hy_hub.specs.Appends.{IsRunningFor};
+ghost use Rattle.hy_hub.specs.HoldSteps.{claim_flown, comes_early};
 ghost use Rattle.hy_hub.specs.Flights.{IsOutWith, IsFlownOf, are_appends};
 ghost use Rattle.hy_hub.specs.Holds.{FailsAfter, KeepsMade, IsCarrier, HasLanded, LandsOwn, IsLiftAt, LedOn, LeadsOn, MayLeadOn, Flies, LeadsStill, lift_of, lift_found};
 
@@ -86,20 +87,21 @@ impl<D: Disk, B: Since> Hub<D, B> {
         requires appends { are_appends (flight_of pass.old.seen) ≡ true }
         requires claim { pass.old.claim ≡ Some request.now.client }
         ensures lands { LandsOwn D.tells (LeavesSince D.moment D.left_since B.moment B.left) B.least D.faults_of self.now request.now since result pass.old pass.new }
-        ensures alone { LeadsStill self.now.parts None (lift_found result) pass.old pass.new }
+        ensures alone { LeadsStill (Some request.now.client) self.now.parts None (lift_found result) pass.old pass.new }
         ensures claim { pass.new.claim ≡ (if is_some result then None else Some request.now.client) }
     {
         let mut contents = self.lock.hold(rt, pass);
         let concerned = contents.concerned(log.laid_len());
         let first = self.places.link(&concerned, request.client());
         let woken = Woken { concerned, first };
+        contents.flies_for();
         contents.land_written(log, at);
         let Some((place, at)) = contents.appended(request, since) else {
             let claim = Some(u64::from(request.client()));
             self.come_home(pass, contents, None, claim, &woken, true);
             return None;
         };
-        let lifted = contents.lift_again();
+        let lifted = contents.lift();
         self.come_home(pass, contents, Some(place), None, &woken, lifted.is_none());
         Some((at, lifted))
     }
@@ -124,19 +126,20 @@ impl<D: Disk, B: Since> Hub<D, B> {
         ensures makes { done_by pass.new ≡ done_by pass.old }
         ensures claim { pass.new.claim ≡ None }
         ensures last { goes_on ≡ false → result ≡ None }
-        ensures alone { LeadsStill self.now.parts (Some flight.lift) (lift_of result) pass.old pass.new }
+        ensures alone { (of : Option ℕ) → LeadsStill of self.now.parts (Some flight.lift) (lift_of result) pass.old pass.new }
     {
         let Flight { log, lift } = flight;
         let mut contents = self.lock.hold(rt, pass);
         let concerned = contents.concerned(log.laid_len());
         let first = self.places.link(&concerned, leader);
         let woken = Woken { concerned, first };
+        contents.flies_for();
         contents.land_written(log, at);
         if !goes_on {
             self.come_home(pass, contents, Some(lift), None, &woken, true);
             return None;
         }
-        let lifted = contents.lift_again();
+        let lifted = contents.lift();
         self.come_home(pass, contents, Some(lift), None, &woken, lifted.is_none());
         lifted
     }
@@ -155,7 +158,7 @@ impl<D: Disk, B: Since> Hub<D, B> {
         requires claim { pass.old.claim ≡ None }
         ensures led { LedOn self.now pass.old pass.new }
         ensures claim { pass.new.claim ≡ None }
-        ensures alone { LeadsStill self.now.parts (Some flight.lift) None pass.old pass.new }
+        ensures alone { (of : Option ℕ) → LeadsStill of self.now.parts (Some flight.lift) None pass.old pass.new }
     {
         let Flight { log, lift } = flight;
         let mut contents = self.lock.hold(rt, pass);
@@ -179,8 +182,9 @@ impl<D: Disk, B: Since> Hub<D, B> {
         requires flown { IsFlownOf D.tells D.content (LeavesSince D.moment D.left_since B.moment B.left) B.least D.faults_of pass.old.seen log (Err failed) }
         requires claim { pass.old.claim ≡ Some request.now.client }
         ensures refused { OwnTurn pass.old pass.new (AppendDoes request.now.client request.now.number request.now.entry (Err result)) }
-        ensures cause { FailsAfter pass.old.seen pass.new.seen × KeepsMade pass.old pass.new × ((at : ℕ) → result ≢ AppendRefusal.Stopped at) }
-        ensures alone { LeadsStill self.now.parts None None pass.old pass.new }
+        ensures cause { FailsAfter pass.old.seen pass.new.seen × KeepsMade pass.old pass.new × ((at : ℕ) → result ≢ AppendRefusal.Stopped at) × (result ≢ AppendRefusal.Memory) }
+        ensures in_turn { pass.old.parts ≡ self.now.parts → IsRunningFor request.now.client request.now.number request.now.entry pass.old.seen → comes_early result ≡ false }
+        ensures alone { LeadsStill (Some request.now.client) self.now.parts None None pass.old pass.new }
         ensures kept { IsIdle self.now pass.new × (pass.new.parts ≡ pass.old.parts) }
     {
         let mut contents = self.lock.hold(rt, pass);
@@ -209,7 +213,7 @@ impl<D: Disk, B: Since> Hub<D, B> {
         requires claim { pass.old.claim ≡ None }
         ensures led { LeadsOn D.tells (LeavesSince D.moment D.left_since B.moment B.left) B.least D.faults_of self.now result pass.old pass.new }
         ensures claim { pass.new.claim ≡ None }
-        ensures alone { LeadsStill self.now.parts (Some flight.lift) (lift_of result) pass.old pass.new }
+        ensures alone { (of : Option ℕ) → LeadsStill of self.now.parts (Some flight.lift) (lift_of result) pass.old pass.new }
         ensures last { goes_on ≡ false → result ≡ None }
     {
         let mut flight = flight;
@@ -235,7 +239,7 @@ impl<D: Disk, B: Since> Hub<D, B> {
         requires leaves { MayLeadOn D.tells (LeavesSince D.moment D.left_since B.moment B.left) B.least D.faults_of self.now lifted pass.old }
         ensures led { LedOn self.now pass.old pass.new }
         ensures claim { pass.new.claim ≡ None }
-        ensures alone { LeadsStill self.now.parts (lift_of lifted) None pass.old pass.new }
+        ensures alone { (of : Option ℕ) → LeadsStill of self.now.parts (lift_of lifted) None pass.old pass.new }
     {
         let mut lifted = lifted;
         for _batch in 1..MOST_BATCHES {
@@ -270,7 +274,8 @@ impl<D: Disk, B: Since> Hub<D, B> {
         requires appends { are_appends (flight_of pass.old.seen) ≡ true }
         requires claim { pass.old.claim ≡ Some request.now.client }
         ensures flies { Flies self.now request.now since result pass.old pass.new }
-        ensures alone { LeadsStill self.now.parts None None pass.old pass.new }
+        ensures in_turn { pass.old.parts ≡ self.now.parts → IsRunningFor request.now.client request.now.number request.now.entry pass.old.seen → IfErr result (λ e. comes_early e ≡ false) }
+        ensures alone { LeadsStill (Some request.now.client) self.now.parts None None pass.old pass.new }
         ensures kept { IsFree self.now pass.new × (pass.new.parts ≡ pass.old.parts) }
         ensures claim { pass.new.claim ≡ claim_flown request.now.client result }
     {
