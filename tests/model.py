@@ -1,6 +1,6 @@
 """An independent model of what `hyder` answers, written from the definitions of its formats and rules and not from its code.
 
-`answer(words, source, log, points)` is the whole of it: the status, the text on standard output, and the bytes of both files
+`answer(words, source, log, points, spare)` is the whole of it: the status, the text on standard output, and the bytes of the files
 afterwards, for each command whose answer is determined: all but a `run` of two or more clients with programs. Such a run is
 judged by `judge`, by the trace that it printed. All is plain and slow: sets, lists and dictionaries.
 """
@@ -10,6 +10,7 @@ import struct
 PAGE = 256
 GATE = 0x47
 MAGIC = b"HYDERLOG"
+MAGIC_OF_CUT = b"HYDERCUT"
 U64 = 2**64 - 1
 MOST_CAP = 2147483648
 MOST_HORIZON = 2147483648
@@ -19,7 +20,7 @@ MOST_SOURCE = 16777216
 Shape = collections.namedtuple("Shape", "group window cap version horizon", defaults=(1, None))
 # points: ascending keys; spans: ascending (lo, hi); writes: ascending (key, bytes or None); whether it is at Snapshot isolation. A filler has client 0.
 Entry = collections.namedtuple("Entry", "server client snap points spans writes snapshot", defaults=(False,))
-Answer = collections.namedtuple("Answer", "status text log points")
+Answer = collections.namedtuple("Answer", "status text log points spare", defaults=(None,))
 Script = collections.namedtuple("Script", "shape servers clients")
 Client = collections.namedtuple("Client", "server programs")
 Program = collections.namedtuple("Program", "commands snapshot", defaults=(False,))
@@ -191,11 +192,20 @@ class Config(Exception):
         self.field, self.log, self.asked = field, log, asked
 
 
-def header_of(shape):
-    head = bytes([GATE]) + MAGIC + struct.pack("<BBBI", shape.version, shape.group, shape.window, shape.cap)
-    if has_horizon(shape.version):
-        head += struct.pack("<I", shape.horizon)
+def header_of(shape, cut=0):
+    """The header of a log that was cut at a position, or that wasn't."""
+    head = bytes([GATE]) + (MAGIC_OF_CUT if cut else MAGIC) + struct.pack("<BBBI", shape.version, shape.group, shape.window, shape.cap)
+    head += struct.pack("<II", shape.horizon or 0, cut)
     return head + bytes(PAGE - len(head))
+
+
+def cut_in(page):
+    """The position at which the log with this header was cut, 0 where it wasn't."""
+    return int.from_bytes(page[20:24], "little") if page[1:9] == MAGIC_OF_CUT else 0
+
+
+def may_cut(shape, cut):
+    return 1 <= cut <= shape.cap and cut % (shape.group * shape.window) == 0
 
 
 def shape_in(page):
@@ -205,13 +215,15 @@ def shape_in(page):
 
 def header_fault(page):
     """Why these 256 bytes behind their gate are no header, or none."""
-    if page[1:9] != MAGIC:
+    is_cut = page[1:9] == MAGIC_OF_CUT
+    if not is_cut and page[1:9] != MAGIC:
         return "magic"
     if page[9] not in (1, 2, 3):
         return "version"
-    if not is_good(shape_in(page)):
+    if not is_good(shape_in(page)) or is_cut and not may_cut(shape_in(page), cut_in(page)):
         return "shape"
-    return "fill" if any(page[20 if has_horizon(page[9]) else 16:]) else None
+    fill = (b"" if has_horizon(page[9]) else page[16:20]) + (b"" if is_cut else page[20:24]) + page[24:PAGE]
+    return "fill" if any(fill) else None
 
 
 def is_unborn(device):
@@ -262,7 +274,7 @@ def is_torn_batch(device, page, left, version):
 
 
 def read_log(device, asked=None):
-    """The shape, bodies and frontier of a device that isn't unborn."""
+    """The shape, bodies and frontier of a device that isn't unborn. The first body is that of the position behind the cut."""
     if device[0] != GATE:
         raise BadPage(0, "gate")
     if len(device) < PAGE:
@@ -276,12 +288,13 @@ def read_log(device, asked=None):
             if getattr(shape, field) != getattr(asked, field):
                 raise Config(field, getattr(shape, field), getattr(asked, field))
     bodies, page = [], 1
+    places = shape.cap - cut_in(device)
     while PAGE * page + 1 < len(device) and device[PAGE * page] == GATE:
-        if len(bodies) == shape.cap:
+        if len(bodies) == places:
             raise BadPage(page, "cap")
         body, page = record_at(device, page, shape.version)
         bodies.append(body)
-    if PAGE * page + 1 < len(device) and device[PAGE * page] != 0 and not is_torn_batch(device, page, shape.cap - len(bodies), shape.version):
+    if PAGE * page + 1 < len(device) and device[PAGE * page] != 0 and not is_torn_batch(device, page, places - len(bodies), shape.version):
         raise BadPage(page, "gate")
     return shape, bodies, page
 
@@ -291,13 +304,17 @@ def put_at(device, place, data):
     return device[:place] + data + device[place + len(data):]
 
 
+def born(device, shape, cut=0):
+    """An unborn device with a header of its own."""
+    return put_at(put_at(put_at(device, 0, b"\0"), 1, header_of(shape, cut)[1:] + b"\0"), 0, bytes([GATE]))
+
+
 def opened(device, asked=None):
     """The shape (none: unborn), bodies and frontier of a device, and its bytes once it is open."""
     if is_unborn(device):
         if asked is None:
             return None, [], 0, device
-        device = put_at(put_at(device, 0, b"\0"), 1, header_of(asked)[1:] + b"\0")
-        return asked, [], 1, put_at(device, 0, bytes([GATE]))
+        return asked, [], 1, born(device, asked)
     shape, bodies, page = read_log(device, asked)
     return shape, bodies, page, put_at(device, PAGE * page, b"\0")
 
@@ -361,6 +378,10 @@ def read_point(device, shape):
     if any(device[end:last]):
         raise Bad(end, "fill")
     return Point(position, base, rows, flags)
+
+
+# What stands in a list of entries for one that was cut: no rule looks at it.
+CUT_ENTRY = Entry(1, 0, 0, (), (), ())
 
 
 # ---- validation, by sets
@@ -823,15 +844,17 @@ def run_text(core):
     return lines_text([b"trace %d" % len(core.trace), *map(event_line, core.trace), *report_lines(core)])
 
 
-def dump_text(shape, entries):
+def dump_text(shape, entries, cut=0):
     if shape is None:
         return b"empty\n"
     told = tells_isolation(shape.version)
     version = b" version %d" % shape.version if told else b""
     if shape.horizon is not None:
         version += b" horizon %d" % shape.horizon
+    if cut:
+        version += b" from %d" % cut
     lines = [b"log group %d window %d cap %d%s entries %d" % (*shape[:3], version, len(entries))]
-    for position, entry in enumerate(entries, 1):
+    for position, entry in enumerate(entries, cut + 1):
         if is_filler(entry):
             lines.append(b"entry %d server %d filler" % (position, entry.server))
         else:
@@ -919,7 +942,7 @@ def summary_text(seed, size, core):
 
 # ---- the whole call
 
-USAGE = b"hyder: usage: run|sim|recover|check|load\n"
+USAGE = b"hyder: usage: run|sim|recover|check|load|compact\n"
 
 
 class Fault(Exception):
@@ -928,9 +951,10 @@ class Fault(Exception):
         self.status, self.line = status, line
 
 
-def find_entries(shape, bodies):
+def find_entries(shape, bodies, cut=0):
+    """The entries of these bodies, the first of them at the position behind the cut."""
     entries = []
-    for position, body in enumerate(bodies, 1):
+    for position, body in enumerate(bodies, cut + 1):
         try:
             entries.append(decode_at(body, position, shape))
         except Bad as bad:
@@ -939,10 +963,11 @@ def find_entries(shape, bodies):
 
 
 class Call:
-    """One call of the program. What it does to the files shows in `log` and `points`, which are none where there is no file."""
+    """One call of the program. What it does to the files shows in `log`, `points` and `spare`, which are none where there is no file."""
 
-    def __init__(self, log, points):
-        self.log, self.points = log, points
+    def __init__(self, log, points, spare):
+        self.log, self.points, self.spare = log, points, spare
+        self.cut = 0
 
     def opened(self, asked=None):
         self.log = self.log or b""
@@ -952,7 +977,8 @@ class Call:
             raise Fault(6, "log page %d %s" % (bad.page, bad.why))
         except Config as config:
             raise Fault(7, "config %s log %d script %d" % (config.field, config.log, config.asked))
-        return shape, find_entries(shape, bodies), page
+        self.cut = cut_in(self.log) if shape else 0
+        return shape, find_entries(shape, bodies, self.cut), page
 
     def read_point(self, shape, length):
         self.points = self.points or b""
@@ -966,8 +992,10 @@ class Call:
 
     def run(self, options, source):
         script, _ = read_source(source, False)
-        _, entries, page = self.opened(script.shape)
+        _, found, page = self.opened(script.shape)
+        entries = [CUT_ENTRY] * self.cut + found
         point = self.read_point(script.shape, len(entries)) if "--point" in options else None
+        self.not_behind(point)
         if sum(bool(client.programs) for client in script.clients) > 1:
             raise ValueError("the answer of this run is not determined")
         core = Core(script, entries, point)
@@ -977,6 +1005,26 @@ class Call:
         if "--save" in options:
             self.points = saved(self.points or b"", script.shape, point_of(script.shape, core.fold, core.length))
         return run_text(core)
+
+    def not_behind(self, point):
+        base = point.base if point else 0
+        if base < self.cut:
+            raise Fault(8, "point base %d log from %d" % (base, self.cut))
+
+    def compact(self):
+        shape, entries, _ = self.opened()
+        point = self.read_point(shape, self.cut + len(entries)) if shape else None
+        base = point.base if point else 0
+        if base <= self.cut:
+            raise Fault(10, "compact from %d base %d" % (self.cut, base))
+        self.spare = self.spare or b""
+        if not is_unborn(self.spare):
+            raise Fault(11, "spare in use")
+        kept = entries[base - self.cut:]
+        self.spare, page = born(self.spare, shape, base), 1
+        for entry in kept:
+            self.spare, page = appended(self.spare, page, encode(entry, shape.version))
+        return b"compact from %d entries %d\n" % (base, len(kept))
 
     def simulate(self, source):
         script, events = read_source(source, True)
@@ -999,33 +1047,39 @@ class Call:
             core = Core(generated(seed, size))
             run_load(core)
             return summary_text(seed, size, core)
+        if command == "compact":
+            return self.compact()
         shape, entries, _ = self.opened()
-        return dump_text(shape, entries) if command == "recover" else check_text(shape, entries)
+        if command == "recover":
+            return dump_text(shape, entries, self.cut)
+        self.not_behind(None)
+        return check_text(shape, entries)
 
 
-def answer(words, source=b"", log=None, points=None):
+def answer(words, source=b"", log=None, points=None, spare=None):
     """What the words, the program's name left out, are answered. The words have to be a line or no command of the table."""
-    call = Call(log, points)
-    if not words or words[0] not in ("run", "sim", "recover", "check", "load"):
-        return Answer(1, USAGE, log, points)
+    call = Call(log, points, spare)
+    if not words or words[0] not in ("run", "sim", "recover", "check", "load", "compact"):
+        return Answer(1, USAGE, log, points, spare)
     try:
-        return Answer(0, call.obey(words[0], words[1:], source), call.log, call.points)
+        return Answer(0, call.obey(words[0], words[1:], source), call.log, call.points, call.spare)
     except Refused as refused:
         status, line = 2, "script line %d %s" % (refused.line, refused.why)
     except Fault as fault:
         status, line = fault.status, fault.line
-    return Answer(status, b"hyder: %s\n" % line.encode(), call.log, call.points)
+    return Answer(status, b"hyder: %s\n" % line.encode(), call.log, call.points, call.spare)
 
 
 # ---- runs whose trace isn't determined
 
-def judge(script, entries, text):
-    """What is wrong with the text of a run over a log of these entries, or none; and the entries after it."""
+def judge(script, entries, text, point=None):
+    """What is wrong with the text of a run over a log of these entries, or none; and the entries after it. A log that was cut has
+    entries in place of those that are gone, and a point."""
     lines = text.split(b"\n")
     head = lines[0].split(b" ")
     if head[0] != b"trace" or len(head) != 2:
         return "no trace", []
-    core = Core(script, entries)
+    core = Core(script, entries, point)
     for line in lines[1:1 + int(head[1])]:
         name, *numbers = line.split(b" ")
         if name not in (b"b", b"a", b"e", b"f", b"p", b"r"):

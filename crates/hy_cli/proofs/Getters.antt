@@ -51,19 +51,20 @@ reads_flag needed f id r none on off accepted = go (one_of id (rows_of f)) refl
     go (Some t) is = rw is (read t is (bytes_eq t (codes "true")) (bytes_eq t (codes "false")) refl refl (rw is at accepted))
 
 -- the last of the commands that a name can be
-pub load_left : (name : Text) → is_some (command_named name) ≡ true → (name ≡ codes "recover" → ⊥) → (name ≡ codes "check" → ⊥) → (name ≡ codes "run" → ⊥) → (name ≡ codes "sim" → ⊥)
+pub load_left : (name : Text) → is_some (command_named name) ≡ true → (name ≡ codes "recover" → ⊥) → (name ≡ codes "check" → ⊥) → (name ≡ codes "compact" → ⊥) → (name ≡ codes "run" → ⊥) → (name ≡ codes "sim" → ⊥)
     → name ≡ codes "load"
-load_left name known recover check run sim =
-    go (bytes_eq (codes "run") name) (bytes_eq (codes "sim") name) (bytes_eq (codes "recover") name) (bytes_eq (codes "check") name) (bytes_eq (codes "load") name) refl refl refl refl refl
+load_left name known recover check compact run sim =
+    go (bytes_eq (codes "run") name) (bytes_eq (codes "sim") name) (bytes_eq (codes "recover") name) (bytes_eq (codes "check") name) (bytes_eq (codes "compact") name) (bytes_eq (codes "load") name) refl refl refl refl refl refl
   where
-    go : (n s r c l : Bool) → bytes_eq (codes "run") name ≡ n → bytes_eq (codes "sim") name ≡ s → bytes_eq (codes "recover") name ≡ r → bytes_eq (codes "check") name ≡ c
-        → bytes_eq (codes "load") name ≡ l → name ≡ codes "load"
-    go true s r c l is _ _ _ _ = absurd (run (sym ((bytes_eq-Decides (codes "run") name).0 is)))
-    go false true r c l _ is _ _ _ = absurd (sim (sym ((bytes_eq-Decides (codes "sim") name).0 is)))
-    go false false true c l _ _ is _ _ = absurd (recover (sym ((bytes_eq-Decides (codes "recover") name).0 is)))
-    go false false false true l _ _ _ is _ = absurd (check (sym ((bytes_eq-Decides (codes "check") name).0 is)))
-    go false false false false true _ _ _ _ is = sym ((bytes_eq-Decides (codes "load") name).0 is)
-    go false false false false false o p q r t = absurd (true≢false (sym (rw (o, p, q, r, t) at known)))
+    go : (n s r c k l : Bool) → bytes_eq (codes "run") name ≡ n → bytes_eq (codes "sim") name ≡ s → bytes_eq (codes "recover") name ≡ r → bytes_eq (codes "check") name ≡ c
+        → bytes_eq (codes "compact") name ≡ k → bytes_eq (codes "load") name ≡ l → name ≡ codes "load"
+    go true s r c k l is _ _ _ _ _ = absurd (run (sym ((bytes_eq-Decides (codes "run") name).0 is)))
+    go false true r c k l _ is _ _ _ _ = absurd (sim (sym ((bytes_eq-Decides (codes "sim") name).0 is)))
+    go false false true c k l _ _ is _ _ _ = absurd (recover (sym ((bytes_eq-Decides (codes "recover") name).0 is)))
+    go false false false true k l _ _ _ is _ _ = absurd (check (sym ((bytes_eq-Decides (codes "check") name).0 is)))
+    go false false false false true l _ _ _ _ is _ = absurd (compact (sym ((bytes_eq-Decides (codes "compact") name).0 is)))
+    go false false false false false true _ _ _ _ _ is = sym ((bytes_eq-Decides (codes "load") name).0 is)
+    go false false false false false false o p q r t u = absurd (true≢false (sym (rw (o, p, q, r, t, u) at known)))
 
 -- what a `run` has, a `sim`, and a `load`
 pub run_accepted : (name : Text) (rows : List Row) → name ≡ codes "run" → has_accepted name rows ≡ true

@@ -9,7 +9,7 @@ use Rattle.clap.specs.Takes.{takes, walk_passes}
 use Rattle.clap.proofs.WalkLemmas.{walk_stopped}
 use Rattle.std.proofs.lemmas.Slice.Eq.{bytes_eq-Decides}
 use Rattle.hy_base.specs.Spelling.{Text}
-use Rattle.hy_cli.specs.CommandLine.{CliCommand, CliOption, Given, check_command, choices_given, command_line, command_named, commands, given_all, line_of, load_command, point_option, recover_command, run_command, save_option, seed_option, sim_command, size_option, threads_option}
+use Rattle.hy_cli.specs.CommandLine.{CliCommand, CliOption, Given, check_command, choices_given, compact_command, command_line, command_named, commands, given_all, line_of, load_command, point_option, recover_command, run_command, save_option, seed_option, sim_command, size_option, threads_option}
 use Rattle.hy_cli.specs.Matches.{choices_found, hyder_app, line_found, meant}
 use Rattle.hy_cli.specs.declared.line.Line.{Line}
 use Rattle.hy_cli.specs.declared.line.Line.TheVariants.{Run, Sim, Load}
@@ -94,6 +94,10 @@ check_enters : Enters check_command.name []
 unfolding walked walk_passes
 check_enters = record { met = refl; passes = λ rest. refl; found = refl; table = no_table }
 
+compact_enters : Enters compact_command.name []
+unfolding walked walk_passes
+compact_enters = record { met = refl; passes = λ rest. refl; found = refl; table = no_table }
+
 load_enters : Enters load_command.name load_command.options
 unfolding walked walk_passes
 load_enters = record { met = refl; passes = λ rest. refl; found = refl; table = load_table }
@@ -151,7 +155,10 @@ all_rows = (
     record { enters = sim_enters; means = sim_means },
     (
       record { enters = recover_enters; means = λ g right. refl },
-      (record { enters = check_enters; means = λ g right. refl }, (record { enters = load_enters; means = load_means }, tt)),
+      (
+        record { enters = check_enters; means = λ g right. refl },
+        (record { enters = compact_enters; means = λ g right. refl }, (record { enters = load_enters; means = load_means }, tt)),
+      ),
     ),
   ),
 )

@@ -4,7 +4,7 @@ use Rattle.std.specs.Fmt.{digits}
 use Rattle.hy_base.specs.Spelling.{Text}
 use Rattle.hy_cli.specs.CommandLine.{line_of}
 use Rattle.hy_cli.specs.declared.line.Line.{Line}
-use Rattle.hy_cli.specs.declared.line.Line.TheVariants.{Run, Sim, Recover, Check, Load}
+use Rattle.hy_cli.specs.declared.line.Line.TheVariants.{Run, Sim, Recover, Check, Compact, Load}
 
 abbrev hyder : List Text → Option Line
 hyder words = line_of (codes "hyder" ∷ words)
@@ -77,6 +77,9 @@ recovers = refl
 
 checks : hyder (codes "check" ∷ []) ≡ Some Check
 checks = refl
+
+compacts : hyder (codes "compact" ∷ []) ≡ Some Compact
+compacts = refl
 
 not_its_option : hyder (codes "check" ∷ threads ∷ codes "4" ∷ []) ≡ None
 unfolding digits

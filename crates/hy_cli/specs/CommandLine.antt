@@ -8,7 +8,7 @@ use Rattle.hy_base.specs.Spelling.{Text, number_of}
 use Rattle.hy_base.specs.Shape.{is_within}
 use Rattle.hy_base.specs.Limits.{IsThreadCount, IsLoadSize}
 use Rattle.hy_cli.specs.declared.line.Line.{Line}
-use Rattle.hy_cli.specs.declared.line.Line.TheVariants.{Run, Sim, Recover, Check, Load}
+use Rattle.hy_cli.specs.declared.line.Line.TheVariants.{Run, Sim, Recover, Check, Compact, Load}
 
 -- ---- options
 
@@ -83,6 +83,9 @@ recover_command = record { name = codes "recover"; options = []; line = λ c. Re
 abbrev pub check_command : CliCommand
 check_command = record { name = codes "check"; options = []; line = λ c. Check }
 
+abbrev pub compact_command : CliCommand
+compact_command = record { name = codes "compact"; options = []; line = λ c. Compact }
+
 -- the seed and the size have to be given, so the number for one that is not is never taken
 abbrev pub load_command : CliCommand
 load_command = record {
@@ -92,7 +95,7 @@ load_command = record {
 }
 
 abbrev pub commands : List CliCommand
-commands = run_command ∷ sim_command ∷ recover_command ∷ check_command ∷ load_command ∷ []
+commands = run_command ∷ sim_command ∷ recover_command ∷ check_command ∷ compact_command ∷ load_command ∷ []
 
 abbrev pub command_named : Text → Option CliCommand
 command_named word = find (λ c. bytes_eq c.name word) commands
@@ -110,6 +113,7 @@ command_word (Run threads point save) = codes "run"
 command_word (Sim threads) = codes "sim"
 command_word Recover = codes "recover"
 command_word Check = codes "check"
+command_word Compact = codes "compact"
 command_word (Load seed size threads) = codes "load"
 
 -- ---- the words after the command

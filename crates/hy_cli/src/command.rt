@@ -98,6 +98,7 @@ pub(crate) fn hyder_command<'a>(alloc: Global) -> Result<Command<'a>, AllocError
     let app = with_command(program(alloc), run_command(alloc))?;
     let app = with_command(app, sim_command(alloc))?
         .subcommand(Command::new(alloc, "recover"))?
-        .subcommand(Command::new(alloc, "check"))?;
+        .subcommand(Command::new(alloc, "check"))?
+        .subcommand(Command::new(alloc, "compact"))?;
     with_command(app, load_command(alloc))
 }

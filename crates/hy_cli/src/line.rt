@@ -23,6 +23,8 @@ pub enum Line {
     Recover,
     /// Print what the log means.
     Check,
+    /// Copy the log past the saved point's base to the spare device.
+    Compact,
     /// Run a generated load of 1 to 80,000 programs, on 1 to 16 threads. Any seed is lawful.
     Load {
         seed: u64,

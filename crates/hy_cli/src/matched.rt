@@ -54,6 +54,7 @@ pub(crate) fn line_from(name: &str, found: &ArgMatches<'_>) -> Line
     match name {
         "recover" => Line::Recover,
         "check" => Line::Check,
+        "compact" => Line::Compact,
         "run" => Line::Run {
             threads: threads_of(found),
             point: flag_of(found, "point"),

@@ -8,13 +8,15 @@ ghost use Rattle.hy_rules.specs.Runs.{setting_of as script_setting};
 ghost use Rattle.hy_hub.specs.Calls.{events_in_list};
 ghost use Rattle.hy_hub.specs.Close.{IsClosed};
 ghost use Rattle.hy_formats.specs.LogDevice.{Holds};
+ghost use Rattle.hy_log.specs.View.{header_of};
 ghost use Rattle.hy_hub.specs.Initial.{IsInitial};
 ghost use Rattle.hy_disk.specs.Moments.{LeavesSince};
-ghost use Rattle.hy_hub.specs.Trace.{setting_in, state_after, faults_at_opening};
+ghost use Rattle.hy_hub.specs.Trace.{setting_in, from_in, state_after, faults_at_opening};
 ghost use Rattle.hy_base.specs.declared.record.EntryKind.{EntryKind};
 ghost use Rattle.hy_base.specs.declared.workload.Event.{Event};
+ghost use Rattle.hy_rules.specs.CutLogs.{swapped};
 ghost use Rattle.hy_rules.specs.Moves.{State};
-ghost use Rattle.hy_clients.specs.Passing.{IsRunPass, Fits, StartStands, OpensStanding, OpensInLog, opened_log, opened_start};
+ghost use Rattle.hy_clients.specs.Passing.{IsRunPass, Fits, IsFrontOf, OpensBehind, OpensInLog, opened_log, opened_start};
 ghost use Rattle.hy_clients.specs.Served.{AllServed};
 ghost use Rattle.hy_clients.specs.Finished.{IsCutShort, IsFinished};
 
@@ -91,7 +93,7 @@ fn finished<D: Disk, B: Since>(
     requires ends { list_all (λ board. board == length (state_after closed.occurrences.items).log) (state_after closed.occurrences.items).boards ≡ true }
     requires served { AllServed script.now closed.occurrences.items 1 script.now.clients (map (λ t. t.items) told.items) }
     requires events { events ≡ events_in_list closed.occurrences.items }
-    ensures run { IfOk result (λ run. (run.log ≡ closed.log) × IsFinished D.tells (LeavesSince D.moment D.left_since B.moment B.left) script.now (opened_log closed.occurrences.items) (opened_start closed.occurrences.items) run.events run.replies run.boards run.log) }
+    ensures run { IfOk result (λ run. (run.log ≡ closed.log) × IsFinished D.tells (LeavesSince D.moment D.left_since B.moment B.left) script.now (from_in closed.occurrences.items) (opened_log closed.occurrences.items) (opened_start closed.occurrences.items) run.events run.replies run.boards run.log) }
     ensures log { IfErr result (λ broken. broken.log ≡ closed.log) }
     ensures cause { IfErr result (λ broken. broken.cause ≡ Cause.Device → closed.log.stopped ≢ None) }
     ensures memory { IfErr result (λ broken. broken.cause ≡ Cause.Memory → closed.log.stopped ≡ None) }
@@ -166,10 +168,10 @@ fn run_on<D: Disk + Send, B: Since + Send, R: Threads + Wait + Sync, G: Gate + S
     requires parts { (hub.parts ≡ 129) × (pass.parts ≡ 129) }
     requires within { OpensInLog pass.seen }
     requires least { B.least ≡ length (opened_log pass.seen) }
-    requires suits { (s : State) (event : Event) (added : List EntryKind) → B.suits s event added → OpensStanding pass.seen → Fits script.now s event added }
+    requires suits { (s : State) (event : Event) (added : List EntryKind) → B.suits s event added → (front : List EntryKind) → OpensBehind pass.seen front → Fits script.now (swapped front s) event added }
     requires threads { IsThreadCount threads }
-    ensures run { IfOk result (λ run. IsFinished D.tells (LeavesSince D.moment D.left_since B.moment B.left) script.now (opened_log pass.seen) (opened_start pass.seen) run.events run.replies run.boards run.log) }
-    ensures cut { IfErr result (λ broken. IsCutShort D.tells D.content (LeavesSince D.moment D.left_since B.moment B.left) script.now (opened_log pass.seen) (opened_start pass.seen) broken.log) }
+    ensures run { IfOk result (λ run. IsFinished D.tells (LeavesSince D.moment D.left_since B.moment B.left) script.now (from_in pass.seen) (opened_log pass.seen) (opened_start pass.seen) run.events run.replies run.boards run.log) }
+    ensures cut { IfErr result (λ broken. IsCutShort D.tells D.content (LeavesSince D.moment D.left_since B.moment B.left) script.now (from_in pass.seen) (opened_log pass.seen) (opened_start pass.seen) broken.log) }
     ensures cause { IfErr result (λ broken. broken.cause ≡ Cause.Device → Rose (faults_at_opening pass.seen) (D.faults_of broken.log.disk)) }
     ensures memory { IfErr result (λ broken. broken.cause ≡ Cause.Memory → broken.log.stopped ≡ None) }
     ensures stopped { IfErr result (λ broken. broken.log.stopped ≢ None → Rose (faults_at_opening pass.seen) (D.faults_of broken.log.disk)) }
@@ -198,14 +200,14 @@ fn run_since<D: Disk + Send, B: Since + Send, R: Threads + Wait + Sync, G: Gate 
 ) -> Result<Run<D>, Broken<D>>
     requires opens { IsInitial D.tells log entries.items start script.now.servers (script_setting script.now).homes }
     requires shape { start.shape ≡ script.now.shape }
-    requires since { IsTrue D.tells → LeavesSince D.moment D.left_since B.moment B.left log.disk (Holds log.shape log.bodies) }
+    requires since { IsTrue D.tells → LeavesSince D.moment D.left_since B.moment B.left log.disk (Holds (header_of log) log.bodies) }
     requires least { B.least ≡ length log.bodies }
     requires version { B.version ≡ log.shape.version }
-    requires takes { (s : State) (event : Event) (added : List EntryKind) → (StartStands entries.items start → Fits script.now s event added) → B.suits s event added }
-    requires suits { (s : State) (event : Event) (added : List EntryKind) → B.suits s event added → StartStands entries.items start → Fits script.now s event added }
+    requires takes { (s : State) (event : Event) (added : List EntryKind) → ((front : List EntryKind) → IsFrontOf log.from entries.items start front → Fits script.now (swapped front s) event added) → B.suits s event added }
+    requires suits { (s : State) (event : Event) (added : List EntryKind) → B.suits s event added → (front : List EntryKind) → IsFrontOf log.from entries.items start front → Fits script.now (swapped front s) event added }
     requires threads { IsThreadCount threads }
-    ensures run { IfOk result (λ run. IsFinished D.tells (LeavesSince D.moment D.left_since B.moment B.left) script.now entries.items start run.events run.replies run.boards run.log) }
-    ensures cut { IfErr result (λ broken. IsCutShort D.tells D.content (LeavesSince D.moment D.left_since B.moment B.left) script.now entries.items start broken.log) }
+    ensures run { IfOk result (λ run. IsFinished D.tells (LeavesSince D.moment D.left_since B.moment B.left) script.now log.from entries.items start run.events run.replies run.boards run.log) }
+    ensures cut { IfErr result (λ broken. IsCutShort D.tells D.content (LeavesSince D.moment D.left_since B.moment B.left) script.now log.from entries.items start broken.log) }
     ensures cause { IfErr result (λ broken. broken.cause ≡ Cause.Device → Rose (D.faults_of log.disk) (D.faults_of broken.log.disk)) }
     ensures memory { IfErr result (λ broken. broken.cause ≡ Cause.Memory → broken.log.stopped ≡ None) }
     ensures stopped { IfErr result (λ broken. broken.log.stopped ≢ None → Rose (D.faults_of log.disk) (D.faults_of broken.log.disk)) }
@@ -225,8 +227,9 @@ fn run_since<D: Disk + Send, B: Since + Send, R: Threads + Wait + Sync, G: Gate 
 /// Runs all programs of all clients over a log, each client on a thread of its own, and brings each server to the log's end.
 /// The clients share `threads` for their rolls; those at the end have all. As a client's task starts it calls the gate.
 ///
-/// `start` is where rolling goes on from. Where it stands for the log's first entries the run is one of the script, with its
-/// replies; what the log then holds is told in any case.
+/// `start` is where rolling goes on from. Where the log was cut, what is told of clients holds whichever entries stood up to
+/// the cut: where the roller stands for the first entries of the log with these the run is one of the script, with its
+/// replies. What the log then holds is told in any case.
 ///
 /// `Device`: the log's device failed, and the log is stopped. `Memory`: out of memory. Either hands back the log, which
 /// has all that was found and appended.
@@ -243,8 +246,8 @@ pub fn run_clients<D: Disk + Send, R: Threads + Wait + Sync, G: Gate + Sync>(
     requires opens { IsInitial D.tells log entries.items start script.now.servers (script_setting script.now).homes }
     requires shape { start.shape ≡ script.now.shape }
     requires threads { IsThreadCount threads }
-    ensures run { IfOk result (λ run. IsFinished D.tells (LeavesSince D.moment D.left_since (D.moment log.disk) (D.left_since log.disk)) script.now entries.items start run.events run.replies run.boards run.log) }
-    ensures cut { IfErr result (λ broken. IsCutShort D.tells D.content (LeavesSince D.moment D.left_since (D.moment log.disk) (D.left_since log.disk)) script.now entries.items start broken.log) }
+    ensures run { IfOk result (λ run. IsFinished D.tells (LeavesSince D.moment D.left_since (D.moment log.disk) (D.left_since log.disk)) script.now log.from entries.items start run.events run.replies run.boards run.log) }
+    ensures cut { IfErr result (λ broken. IsCutShort D.tells D.content (LeavesSince D.moment D.left_since (D.moment log.disk) (D.left_since log.disk)) script.now log.from entries.items start broken.log) }
     ensures cause { IfErr result (λ broken. broken.cause ≡ Cause.Device → Rose (D.faults_of log.disk) (D.faults_of broken.log.disk)) }
     ensures memory { IfErr result (λ broken. broken.cause ≡ Cause.Memory → broken.log.stopped ≡ None) }
     ensures stopped { IfErr result (λ broken. broken.log.stopped ≢ None → Rose (D.faults_of log.disk) (D.faults_of broken.log.disk)) }

@@ -3,6 +3,7 @@ use Rattle.std.proofs.Common.{◌≡◌, ℕ, List, [], ◌∷◌, ◌++◌, tak
 use Rattle.std.specs.Prelude.{Option, replicate, unwrap_or}
 use Rattle.hy_base.specs.Lists.{nth}
 use Rattle.hy_base.proofs.NthLemmas.{All-nth, nth_map}
+use Rattle.hy_rules.specs.CutLogs.{starting_with}
 use Rattle.hy_rules.specs.Moves.{board_of}
 use Rattle.hy_rolling.specs.Rolling.{Roll, rolled_upto, Stands}
 use Rattle.hy_hub.specs.Origin.{Origin}
@@ -32,7 +33,7 @@ boards_more list o past more e =
 pub board_rolls : (list : List Occurrence) (o : Origin) (past : List Occurrence) (r : Roll) → list ≡ Opened o ∷ past → IsBoard o (state_after list).log r → IsRollerOf list (rolled_upto r) r
 board_rolls list o past r e board =
     subst (λ (m : List Occurrence). IsRollerOf m (rolled_upto r) r) (sym e)
-    (board.shape, board.from, refl, λ stood. subst (λ (m : List Occurrence). Stands (take (rolled_upto r) (state_after m).log) r) e (board.stands stood))
+    (board.shape, board.from, refl, λ front cut stood. subst (λ (m : List Occurrence). Stands (take (rolled_upto r) (starting_with front (state_after m).log)) r) e (board.stands front cut stood))
 
 pub boards_are_rollers_law : BoardsAreRollers
 boards_are_rollers_law list server r is here =

@@ -2,7 +2,7 @@
 use Rattle.std.proofs.Common.{◌≡◌, ℕ, ◌≤◌, List, [], ◌++◌, length, map, take, ap, sym, ◌∙◌, subst, inl, inr, ⊎_elim, arith, length-append}
 use Rattle.std.proofs.lemmas.List.{append-nil, map-append, take-append-le}
 use Rattle.std.proofs.Math.Seq.{take-append_seam}
-use Rattle.hy_base.specs.declared.layout.Shape.{Shape}
+use Rattle.hy_formats.specs.declared.header.Header.{Header}
 use Rattle.hy_base.specs.declared.record.EntryKind.{EntryKind}
 use Rattle.hy_formats.specs.EntryFormat.{spelling}
 use Rattle.hy_formats.specs.LogDevice.{Holds}
@@ -32,38 +32,38 @@ module _ {D : Type 0} {moment : D → ℕ} {left_since : D → ℕ → List ℕ 
   }
 
 -- the list as it is
-pub stood_whole : (s : Shape) (least : ℕ) (entries : List EntryKind) → least ≤ length entries → (image : List ℕ) → Holds s (map (spelling s.version) entries) image → HoldsSome s least entries image
-stood_whole s least entries few image is =
+pub stood_whole : (h : Header) (least : ℕ) (entries : List EntryKind) → least ≤ length entries → (image : List ℕ) → Holds h (map (spelling h.shape.version) entries) image → HoldsSome h least entries image
+stood_whole h least entries few image is =
     let all : take (length entries) entries ≡ entries = ap (take (length entries)) (sym (append-nil entries)) ∙ take-append_seam entries [] in
-    record { count = length entries; no_fewer = few; no_more = omega arith; holds = subst (λ (l : List EntryKind). Holds s (map (spelling s.version) l) image) (sym all) is }
+    record { count = length entries; no_fewer = few; no_more = omega arith; holds = subst (λ (l : List EntryKind). Holds h (map (spelling h.shape.version) l) image) (sym all) is }
 
-pub stood_now : (s : Shape) (least : ℕ) (entries : List EntryKind) → least ≤ length entries → (image : List ℕ) → Holds s (map (spelling s.version) entries) image → HasStood s least entries [] image
-stood_now s least entries few image is = inl (stood_whole s least entries few image is)
+pub stood_now : (h : Header) (least : ℕ) (entries : List EntryKind) → least ≤ length entries → (image : List ℕ) → Holds h (map (spelling h.shape.version) entries) image → HasStood h least entries [] image
+stood_now h least entries few image is = inl (stood_whole h least entries few image is)
 
 -- the first so many are the first so many of more
-some_more : (s : Shape) (least : ℕ) (entries batch : List EntryKind) (image : List ℕ) → HoldsSome s least entries image → HoldsSome s least (entries ++ batch) image
-some_more s least entries batch image is =
+some_more : (h : Header) (least : ℕ) (entries batch : List EntryKind) (image : List ℕ) → HoldsSome h least entries image → HoldsSome h least (entries ++ batch) image
+some_more h least entries batch image is =
     let size = length-append entries batch in
     let within = is.no_more in
-    record { count = is.count; no_fewer = is.no_fewer; no_more = omega (arith, size, within); holds = subst (λ (l : List EntryKind). Holds s (map (spelling s.version) l) image) (sym (take-append-le is.count entries batch is.no_more)) is.holds }
+    record { count = is.count; no_fewer = is.no_fewer; no_more = omega (arith, size, within); holds = subst (λ (l : List EntryKind). Holds h (map (spelling h.shape.version) l) image) (sym (take-append-le is.count entries batch is.no_more)) is.holds }
 
 -- as what stood is part of a longer list, or a batch may stand behind it
-module _ (s : Shape) (least : ℕ) (entries batch : List EntryKind) (few : least ≤ length entries) (image : List ℕ) where
-  some_of : HasStood s least entries [] image → HoldsSome s least entries image
-  some_of = ⊎_elim (λ (h : HoldsSome s least entries image). h) (λ (h : Holds s (map (spelling s.version) (entries ++ [])) image). stood_whole s least entries few image (subst (λ (l : List EntryKind). Holds s (map (spelling s.version) l) image) (append-nil entries) h))
+module _ (h : Header) (least : ℕ) (entries batch : List EntryKind) (few : least ≤ length entries) (image : List ℕ) where
+  some_of : HasStood h least entries [] image → HoldsSome h least entries image
+  some_of = ⊎_elim (λ (is : HoldsSome h least entries image). is) (λ (is : Holds h (map (spelling h.shape.version) (entries ++ [])) image). stood_whole h least entries few image (subst (λ (l : List EntryKind). Holds h (map (spelling h.shape.version) l) image) (append-nil entries) is))
 
-  pub stood_longer : HasStood s least entries [] image → HasStood s least (entries ++ batch) [] image
-  stood_longer is = inl (some_more s least entries batch image (some_of is))
+  pub stood_longer : HasStood h least entries [] image → HasStood h least (entries ++ batch) [] image
+  stood_longer is = inl (some_more h least entries batch image (some_of is))
 
-  pub stood_torn : HasStood s least entries [] image → HasStood s least entries batch image
+  pub stood_torn : HasStood h least entries [] image → HasStood h least entries batch image
   stood_torn is = inl (some_of is)
 
-  pub upto_longer : HoldsUpTo s (map (spelling s.version) entries) (map (spelling s.version) batch) image → HasStood s least (entries ++ batch) [] image
+  pub upto_longer : HoldsUpTo h (map (spelling h.shape.version) entries) (map (spelling h.shape.version) batch) image → HasStood h least (entries ++ batch) [] image
   upto_longer = ⊎_elim
-      (λ (h : Holds s (map (spelling s.version) entries) image). inl (some_more s least entries batch image (stood_whole s least entries few image h)))
-      (λ (h : Holds s (map (spelling s.version) entries ++ map (spelling s.version) batch) image). stood_now s least (entries ++ batch) (let size = length-append entries batch in omega (arith, size, few)) image (subst (λ (l : List (List ℕ)). Holds s l image) (sym (map-append (spelling s.version) entries batch)) h))
+      (λ (is : Holds h (map (spelling h.shape.version) entries) image). inl (some_more h least entries batch image (stood_whole h least entries few image is)))
+      (λ (is : Holds h (map (spelling h.shape.version) entries ++ map (spelling h.shape.version) batch) image). stood_now h least (entries ++ batch) (let size = length-append entries batch in omega (arith, size, few)) image (subst (λ (l : List (List ℕ)). Holds h l image) (sym (map-append (spelling h.shape.version) entries batch)) is))
 
-  pub upto_torn : HoldsUpTo s (map (spelling s.version) entries) (map (spelling s.version) batch) image → HasStood s least entries batch image
+  pub upto_torn : HoldsUpTo h (map (spelling h.shape.version) entries) (map (spelling h.shape.version) batch) image → HasStood h least entries batch image
   upto_torn = ⊎_elim
-      (λ (h : Holds s (map (spelling s.version) entries) image). inl (stood_whole s least entries few image h))
-      (λ (h : Holds s (map (spelling s.version) entries ++ map (spelling s.version) batch) image). inr (subst (λ (l : List (List ℕ)). Holds s l image) (sym (map-append (spelling s.version) entries batch)) h))
+      (λ (is : Holds h (map (spelling h.shape.version) entries) image). inl (stood_whole h least entries few image is))
+      (λ (is : Holds h (map (spelling h.shape.version) entries ++ map (spelling h.shape.version) batch) image). inr (subst (λ (l : List (List ℕ)). Holds h l image) (sym (map-append (spelling h.shape.version) entries batch)) is))

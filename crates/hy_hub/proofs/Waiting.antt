@@ -8,7 +8,7 @@ use Rattle.hy_base.specs.declared.workload.Session.{Session}
 use Rattle.hy_hist.specs.Passes.{IsAmong, WaitByClaim}
 use Rattle.hy_hub.specs.Entries.{Asked}
 use Rattle.hy_hub.specs.HoldSteps.{claim_after}
-use Rattle.hy_base.specs.declared.layout.Shape.{Shape}
+use Rattle.hy_formats.specs.declared.header.Header.{Header}
 use Rattle.hy_base.specs.declared.record.EntryKind.{EntryKind}
 use Rattle.hy_disk.specs.Content.{Content}
 use Rattle.hy_log.specs.Pipelined.{PipeView}
@@ -129,9 +129,9 @@ none_flies (Some (Appends waited count ahead lifted)) entries cap waiting flying
 none_flies (Some (Fillers server count lifted)) entries cap waiting flying is rests = is.0
 
 -- a log that stopped is home
-pub stopped_home : {D : Type 0} (tells : Bool) (content : D → Content) (leaves : D → (List ℕ → Type 0) → Type 0) (least : ℕ) (faults : D → ℕ) (opened : ℕ) (shape : Shape) (failed : List EntryKind) (flight : Option Batch) (log : Option (PipeView D)) (entries : List EntryKind)
-    → IsPlaced tells content leaves least faults opened shape failed flight log entries → halt_in log ≢ None → is_some flight ≡ false
-stopped_home tells content leaves least faults opened shape failed None None entries placed halted = refl
-stopped_home tells content leaves least faults opened shape failed None (Some log) entries placed halted = refl
-stopped_home tells content leaves least faults opened shape failed (Some batch) None entries placed halted = absurd (halted refl)
-stopped_home tells content leaves least faults opened shape failed (Some batch) (Some log) entries placed halted = absurd placed
+pub stopped_home : {D : Type 0} (tells : Bool) (content : D → Content) (leaves : D → (List ℕ → Type 0) → Type 0) (least : ℕ) (faults : D → ℕ) (opened : ℕ) (header : Header) (failed : List EntryKind) (flight : Option Batch) (log : Option (PipeView D)) (entries : List EntryKind)
+    → IsPlaced tells content leaves least faults opened header failed flight log entries → halt_in log ≢ None → is_some flight ≡ false
+stopped_home tells content leaves least faults opened header failed None None entries placed halted = refl
+stopped_home tells content leaves least faults opened header failed None (Some log) entries placed halted = refl
+stopped_home tells content leaves least faults opened header failed (Some batch) None entries placed halted = absurd (halted refl)
+stopped_home tells content leaves least faults opened header failed (Some batch) (Some log) entries placed halted = absurd placed

@@ -114,10 +114,10 @@ module _ {D : Type 0} {tells : Bool} {content : D → Content} {p : Inside D} {o
   pub commit_within : next < length seen
   commit_within = next_within put.pipe.log told (commit_runs put) stands
 
-  holds : (image : List ℕ) → IsAhead opens gate next seen image → HoldsUpTo p.shape old laid image
+  holds : (image : List ℕ) → IsAhead opens gate next seen image → HoldsUpTo p.header old laid image
   holds image ahead = left_by put.pipe.log told (commit_runs put) stands opens put.opens_is image ahead
 
-  pub commit_holds : (moment : D → ℕ) (left_since : D → ℕ → List ℕ → Type 0) → LeavesOnly moment left_since p.disk new (IsAhead opens gate next seen) → LeavesOnly moment left_since p.disk new (HoldsUpTo p.shape old laid)
+  pub commit_holds : (moment : D → ℕ) (left_since : D → ℕ → List ℕ → Type 0) → LeavesOnly moment left_since p.disk new (IsAhead opens gate next seen) → LeavesOnly moment left_since p.disk new (HoldsUpTo p.header old laid)
   commit_holds moment left_since run = weaker moment left_since p.disk new _ _ holds run
 
   -- after a failure
@@ -131,19 +131,19 @@ module _ {D : Type 0} {tells : Bool} {content : D → Content} {p : Inside D} {o
     pub commit_same : bodies_at (content new).seen p.places.items ≡ old
     commit_same = same_bodies p.frontier (content new).seen seen p.places.items before put.pipe.log.before
 
-    pub commit_failed : (image : List ℕ) → Image (content new) image → HoldsUpTo p.shape old laid image
+    pub commit_failed : (image : List ℕ) → Image (content new) image → HoldsUpTo p.header old laid image
     commit_failed image now = holds image (images image now)
 
-    pub commit_front : IsFront p.shape (bodies_at (content new).seen p.places.items) p.frontier (content new).seen
+    pub commit_front : IsFront p.header (bodies_at (content new).seen p.places.items) p.frontier (content new).seen
     commit_front =
-        subst (λ (bs : List (List ℕ)). IsFront p.shape bs p.frontier (content new).seen) (sym commit_same)
-        (front_is_kept p.shape old p.frontier seen (content new).seen (put.pipe.log.front told) (omega (arith, ahead.within)) before)
+        subst (λ (bs : List (List ℕ)). IsFront p.header bs p.frontier (content new).seen) (sym commit_same)
+        (front_is_kept p.header old p.frontier seen (content new).seen (put.pipe.log.front told) (omega (arith, ahead.within)) before)
 
-    pub commit_torn : LeavesUpTo (content new) p.shape (bodies_at (content new).seen p.places.items)
+    pub commit_torn : LeavesUpTo (content new) p.header (bodies_at (content new).seen p.places.items)
     commit_torn = record {
       batch = laid;
       few = omega (arith, waiting_count p.frontier p.laid, put.pipe.log.waits.few);
-      left = λ image now. subst (λ (bs : List (List ℕ)). HoldsUpTo p.shape bs laid image) (sym commit_same) (commit_failed image now);
+      left = λ image now. subst (λ (bs : List (List ℕ)). HoldsUpTo p.header bs laid image) (sym commit_same) (commit_failed image now);
     }
 
   -- once both are stable
@@ -160,7 +160,7 @@ module _ {D : Type 0} {tells : Bool} {content : D → Content} {p : Inside D} {o
     abbrev behind : List ℕ
     behind = overwritten middle (256 * page + 1) bytes
 
-    grown : IsGrown p.shape places (old ++ laid) page middle
+    grown : IsGrown p.header places (old ++ laid) page middle
     grown = grown_by put.pipe.log told (commit_runs put) stands opens put.opens_is
 
     stored_is : content new ≡ settled behind
@@ -169,30 +169,30 @@ module _ {D : Type 0} {tells : Bool} {content : D → Content} {p : Inside D} {o
     seen_is : (content new).seen ≡ behind
     seen_is = ap (λ (c : Content). c.seen) stored_is
 
-    there : IsGrown p.shape places (old ++ laid) page behind
-    there = laid_behind p.shape places (old ++ laid) page middle grown (laid_before put) bytes
+    there : IsGrown p.header places (old ++ laid) page behind
+    there = laid_behind p.header places (old ++ laid) page middle grown (laid_before put) bytes
 
     pub committed_bodies : bodies_at (content new).seen places ≡ old ++ laid
     committed_bodies = ap (λ (b : List ℕ). bodies_at b places) seen_is ∙ there.are
 
-    pub committed_front : IsFront p.shape (bodies_at (content new).seen places) page (content new).seen
+    pub committed_front : IsFront p.header (bodies_at (content new).seen places) page (content new).seen
     committed_front =
-        subst (λ (bs : List (List ℕ)). IsFront p.shape bs page (content new).seen) (sym committed_bodies)
-        (subst (IsFront p.shape (old ++ laid) page) (sym seen_is) there.front)
+        subst (λ (bs : List (List ℕ)). IsFront p.header bs page (content new).seen) (sym committed_bodies)
+        (subst (IsFront p.header (old ++ laid) page) (sym seen_is) there.front)
 
     pub committed_closed : IsClosedAt (256 * page) (content new)
     committed_closed = subst (IsClosedAt (256 * page)) (sym stored_is) (record { durable = refl; within = there.within; closed = there.shut })
 
-    pub committed_log : Holds p.shape (bodies_at (content new).seen places) (content new).seen
+    pub committed_log : Holds p.header (bodies_at (content new).seen places) (content new).seen
     committed_log =
-        subst (λ (bs : List (List ℕ)). Holds p.shape bs (content new).seen) (sym committed_bodies)
-        (subst (Holds p.shape (old ++ laid)) (sym seen_is) (laid_holds p.shape places (old ++ laid) page middle grown (laid_before put) bytes))
+        subst (λ (bs : List (List ℕ)). Holds p.header bs (content new).seen) (sym committed_bodies)
+        (subst (Holds p.header (old ++ laid)) (sym seen_is) (laid_holds p.header places (old ++ laid) page middle grown (laid_before put) bytes))
 
     pub committed_laid : AreLaid page (waiting page p.batch) (content new).seen
     committed_laid = record {
       behind = drop (256 * page + 1 + length bytes) middle;
       stands =
-          ap (drop (256 * page + 1)) seen_is ∙ laid_stands p.shape places (old ++ laid) page middle grown (laid_before put) bytes
+          ap (drop (256 * page + 1)) seen_is ∙ laid_stands p.header places (old ++ laid) page middle grown (laid_before put) bytes
           ∙ ap (λ (b : List ℕ). b ++ drop (256 * page + 1 + length bytes) middle) (bytes_are put);
     }
 

@@ -4,8 +4,8 @@ use Rattle.std.specs.Prelude.{◌↔◌, IsTrue}
 use Rattle.std.proofs.lemmas.Bool.{cases_lt, false≢true}
 use Rattle.std.specs.List.{AllByRecursion}
 use Rattle.std.proofs.lemmas.List.{ext_get_or, take_at, drop_at, drop_more, drop-drop, take-take, length-map}
-use Rattle.hy_base.specs.declared.layout.Shape.{Shape}
-use Rattle.hy_formats.specs.LogFormat.{IsBody}
+use Rattle.hy_formats.specs.declared.header.Header.{Header}
+use Rattle.hy_formats.specs.LogFormat.{IsBody, places_of}
 use Rattle.hy_formats.specs.LogDevice.{IsFront, pages_in, Holds}
 use Rattle.hy_disk.specs.Content.{Content, settled, overwritten}
 use Rattle.hy_disk.proofs.Images.{torn_overwritten}
@@ -42,7 +42,7 @@ pub ahead_front : (opens : Bool) (gate next : ℕ) (seen image : List ℕ) → g
 ahead_front opens gate next seen image order within ahead =
     take_same gate image seen (omega (arith, order, ahead.within)) (omega (arith, order, within)) (λ i low. ahead.same i (omega (arith, low, order)) (λ told is. absurd (omega (arith, low, is))))
 
-module _ (s : Shape) (bodies : List (List ℕ)) (page : ℕ) (seen : List ℕ) (front : IsFront s bodies page seen) (within : 256 * page < length seen) (shut : get_or seen (256 * page) 0 ≡ 0) where
+module _ (s : Header) (bodies : List (List ℕ)) (page : ℕ) (seen : List ℕ) (front : IsFront s bodies page seen) (within : 256 * page < length seen) (shut : get_or seen (256 * page) 0 ≡ 0) where
   -- nothing is laid down
   pub unopened : (next : ℕ) (image : List ℕ) → 256 * page ≤ next → next < length seen → IsAhead false (256 * page) next seen image → Holds s bodies image
   unopened next image order there ahead =
@@ -50,7 +50,7 @@ module _ (s : Shape) (bodies : List (List ℕ)) (page : ℕ) (seen : List ℕ) (
       (take_same (256 * page + 1) image seen (omega (arith, order, ahead.within)) (omega (arith, within)) (λ i low. ahead.same i (omega (arith, low, order)) (λ told. absurd cc)))
 
   -- a batch is laid down
-  module _ (batch : List (List ℕ)) (some : 1 ≤ length batch) (few : length batch ≤ 8) (placed : length bodies + length batch ≤ s.cap) (sound : AllByRecursion (IsBody s.version) batch) (laid : AreLaid page batch seen) where
+  module _ (batch : List (List ℕ)) (some : 1 ≤ length batch) (few : length batch ≤ 8) (placed : length bodies + length batch ≤ (places_of s)) (sound : AllByRecursion (IsBody s.shape.version) batch) (laid : AreLaid page batch seen) where
     laid_part : take (256 * pages_in batch) (drop (256 * page + 1) seen) ≡ staged batch
     laid_part = ap (take (256 * pages_in batch)) laid.stands ∙ take_at (staged batch) laid.behind (256 * pages_in batch) (staged_size batch)
 
@@ -83,13 +83,13 @@ module _ (s : Shape) (bodies : List (List ℕ)) (page : ℕ) (seen : List ℕ) (
 -- ---- what stands
 
 -- Bodies stand up to a page, whose gate is closed.
-pub record IsGrown (s : Shape) (places : List BodyPlace) (bodies : List (List ℕ)) (page : ℕ) (seen : List ℕ) : Type 0 where
+pub record IsGrown (s : Header) (places : List BodyPlace) (bodies : List (List ℕ)) (page : ℕ) (seen : List ℕ) : Type 0 where
   pub are : bodies_at seen places ≡ bodies
   pub front : IsFront s bodies page seen
   pub within : 256 * page < length seen
   pub shut : get_or seen (256 * page) 0 ≡ 0
 
-module _ (s : Shape) (places : List BodyPlace) (bodies : List (List ℕ)) (page : ℕ) (seen : List ℕ) (grown : IsGrown s places bodies page seen) (before : AllByRecursion (IsEarlierPlace page) places) (piece : List ℕ) where
+module _ (s : Header) (places : List BodyPlace) (bodies : List (List ℕ)) (page : ℕ) (seen : List ℕ) (grown : IsGrown s places bodies page seen) (before : AllByRecursion (IsEarlierPlace page) places) (piece : List ℕ) where
   abbrev behind : List ℕ
   behind = overwritten seen (256 * page + 1) piece
 
@@ -128,7 +128,7 @@ module _ (s : Shape) (places : List BodyPlace) (bodies : List (List ℕ)) (page 
 
 -- the same log on a device that is its content
 pub lowered : {D : Type 0} {tells : Bool} {content : D → Content} {inside : Inside D} → IsLog tells content inside
-    → IsLog {D = Content} tells (λ c. c) (record { disk = content inside.disk; shape = inside.shape; places = inside.places; frontier = inside.frontier; batch = inside.batch; stopped = inside.stopped })
+    → IsLog {D = Content} tells (λ c. c) (record { disk = content inside.disk; header = inside.header; places = inside.places; frontier = inside.frontier; batch = inside.batch; stopped = inside.stopped })
 lowered log = record {
   good = log.good;
   within = log.within;
@@ -163,29 +163,29 @@ module _ {D : Type 0} {tells : Bool} {content : D → Content} {inside : Inside 
   rest = log.at_rest told running
 
   -- something is laid down: its gate is opened
-  grown_some : 1 ≤ length batch → IsGrown inside.shape (inside.places.items ++ inside.batch.places.items) (old ++ batch) (inside.frontier + inside.batch.pages) (overwritten seen gate (71 ∷ []))
+  grown_some : 1 ≤ length batch → IsGrown inside.header (inside.places.items ++ inside.batch.places.items) (old ++ batch) (inside.frontier + inside.batch.pages) (overwritten seen gate (71 ∷ []))
   grown_some some =
       let piece : List ℕ = take (256 * inside.batch.pages) inside.batch.bytes.items in
       let low = lowered log in
       let mid : Content = settled (gate_opened gate piece seen) in
-      let put : IsPut {D = Content} tells (λ c. c) (record { disk = content inside.disk; shape = inside.shape; places = inside.places; frontier = inside.frontier; batch = inside.batch; stopped = inside.stopped }) piece = record { log = low; some = some; is = refl } in
+      let put : IsPut {D = Content} tells (λ c. c) (record { disk = content inside.disk; header = inside.header; places = inside.places; frontier = inside.frontier; batch = inside.batch; stopped = inside.stopped }) piece = record { log = low; some = some; is = refl } in
       let is : gate_opened gate piece seen ≡ overwritten seen gate (71 ∷ []) =
-      ap (λ (p : List ℕ). gate_opened gate p seen) log.waits.spelled ∙ sym (opened_stored inside.shape old inside.frontier seen (log.front told) rest.within rest.closed batch some (omega (arith, count, log.waits.few)) (placed some) log.sound laid) in
+      ap (λ (p : List ℕ). gate_opened gate p seen) log.waits.spelled ∙ sym (opened_stored inside.header old inside.frontier seen (log.front told) rest.within rest.closed batch some (omega (arith, count, log.waits.few)) (placed some) log.sound laid) in
       let closed = grown_closed put mid told refl in
       let are = grown_bodies put mid told refl in
-      subst (IsGrown inside.shape (inside.places.items ++ inside.batch.places.items) (old ++ batch) (inside.frontier + inside.batch.pages)) is
+      subst (IsGrown inside.header (inside.places.items ++ inside.batch.places.items) (old ++ batch) (inside.frontier + inside.batch.pages)) is
       (record {
         are = are;
-        front = subst (λ (bs : List (List ℕ)). IsFront inside.shape bs (inside.frontier + inside.batch.pages) (gate_opened gate piece seen)) are (grown_is_front put mid told refl);
+        front = subst (λ (bs : List (List ℕ)). IsFront inside.header bs (inside.frontier + inside.batch.pages) (gate_opened gate piece seen)) are (grown_is_front put mid told refl);
         within = closed.within;
         shut = closed.closed;
       })
     where
-      placed : 1 ≤ length batch → length old + length batch ≤ inside.shape.cap
+      placed : 1 ≤ length batch → length old + length batch ≤ (places_of inside.header)
       placed some = omega (arith, log.within, count, length-bodies_at seen inside.places.items)
 
   -- nothing is
-  grown_none : length batch ≡ 0 → IsGrown inside.shape (inside.places.items ++ inside.batch.places.items) (old ++ batch) (inside.frontier + inside.batch.pages) (overwritten seen gate [])
+  grown_none : length batch ≡ 0 → IsGrown inside.header (inside.places.items ++ inside.batch.places.items) (old ++ batch) (inside.frontier + inside.batch.pages) (overwritten seen gate [])
   grown_none none =
       let no_places : inside.batch.places.items ≡ [] = empty inside.batch.places.items (omega (arith, none, count)) in
       let no_bodies : batch ≡ [] = empty batch none in
@@ -194,11 +194,11 @@ module _ {D : Type 0} {tells : Bool} {content : D → Content} {inside : Inside 
       let page : inside.frontier ≡ inside.frontier + inside.batch.pages = omega (arith, no_pages) in
       let places : inside.places.items ≡ inside.places.items ++ inside.batch.places.items = sym (append-nil inside.places.items) ∙ ap (λ (ps : List BodyPlace). inside.places.items ++ ps) (sym no_places) in
       let bodies : old ≡ old ++ batch = sym (append-nil old) ∙ ap (λ (bs : List (List ℕ)). old ++ bs) (sym no_bodies) in
-      let here : IsGrown inside.shape inside.places.items old inside.frontier seen = record { are = refl; front = log.front told; within = rest.within; shut = rest.closed } in
-      subst (λ (ps : List BodyPlace). IsGrown inside.shape ps (old ++ batch) (inside.frontier + inside.batch.pages) (overwritten seen gate [])) places
-      (subst (λ (bs : List (List ℕ)). IsGrown inside.shape inside.places.items bs (inside.frontier + inside.batch.pages) (overwritten seen gate [])) bodies
-      (subst (λ (n : ℕ). IsGrown inside.shape inside.places.items old n (overwritten seen gate [])) page
-      (subst (IsGrown inside.shape inside.places.items old inside.frontier) (sym same) here)))
+      let here : IsGrown inside.header inside.places.items old inside.frontier seen = record { are = refl; front = log.front told; within = rest.within; shut = rest.closed } in
+      subst (λ (ps : List BodyPlace). IsGrown inside.header ps (old ++ batch) (inside.frontier + inside.batch.pages) (overwritten seen gate [])) places
+      (subst (λ (bs : List (List ℕ)). IsGrown inside.header inside.places.items bs (inside.frontier + inside.batch.pages) (overwritten seen gate [])) bodies
+      (subst (λ (n : ℕ). IsGrown inside.header inside.places.items old n (overwritten seen gate [])) page
+      (subst (IsGrown inside.header inside.places.items old inside.frontier) (sym same) here)))
     where
       empty : {X : Type 0} (xs : List X) → length xs ≡ 0 → xs ≡ []
       empty [] is = refl
@@ -208,7 +208,7 @@ module _ {D : Type 0} {tells : Bool} {content : D → Content} {inside : Inside 
       plus_zero n = omega arith
 
   -- by whether the gate is to be opened
-  pub grown_by : (opens : Bool) → IsTrue opens ↔ (1 ≤ length inside.batch.places.items) → IsGrown inside.shape (inside.places.items ++ inside.batch.places.items) (old ++ batch) (inside.frontier + inside.batch.pages) (overwritten seen gate (gate_byte opens))
+  pub grown_by : (opens : Bool) → IsTrue opens ↔ (1 ≤ length inside.batch.places.items) → IsGrown inside.header (inside.places.items ++ inside.batch.places.items) (old ++ batch) (inside.frontier + inside.batch.pages) (overwritten seen gate (gate_byte opens))
   grown_by true is = grown_some (omega (arith, count, is.0 refl))
   grown_by false is = elim (cases_lt 0 (length inside.batch.places.items)) [
     | inl some ↦ absurd (false≢true (is.1 (omega (arith, some))))
@@ -218,8 +218,8 @@ module _ {D : Type 0} {tells : Bool} {content : D → Content} {inside : Inside 
   pub next_within : gate + 256 * inside.batch.pages < length seen
   next_within = omega (arith, log.waits.pages, rest.within, length-drop (gate + 1) seen, ap length laid.stands, length-append (staged batch) laid.behind, staged_size batch)
 
-  pub left_by : (opens : Bool) → IsTrue opens ↔ (1 ≤ length inside.batch.places.items) → (image : List ℕ) → IsAhead opens gate (gate + 256 * inside.batch.pages) seen image → HoldsUpTo inside.shape old batch image
+  pub left_by : (opens : Bool) → IsTrue opens ↔ (1 ≤ length inside.batch.places.items) → (image : List ℕ) → IsAhead opens gate (gate + 256 * inside.batch.pages) seen image → HoldsUpTo inside.header old batch image
   left_by true is image ahead =
-      opened inside.shape old inside.frontier seen (log.front told) rest.within rest.closed batch (omega (arith, count, is.0 refl)) (omega (arith, count, log.waits.few)) (omega (arith, log.within, count, length-bodies_at seen inside.places.items)) log.sound laid
+      opened inside.header old inside.frontier seen (log.front told) rest.within rest.closed batch (omega (arith, count, is.0 refl)) (omega (arith, count, log.waits.few)) (omega (arith, log.within, count, length-bodies_at seen inside.places.items)) log.sound laid
       (gate + 256 * inside.batch.pages) image (omega (arith, log.waits.pages)) ahead
-  left_by false is image ahead = inl (unopened inside.shape old inside.frontier seen (log.front told) rest.within rest.closed (gate + 256 * inside.batch.pages) image (omega arith) next_within ahead)
+  left_by false is image ahead = inl (unopened inside.header old inside.frontier seen (log.front told) rest.within rest.closed (gate + 256 * inside.batch.pages) image (omega arith) next_within ahead)

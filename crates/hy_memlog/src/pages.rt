@@ -1,7 +1,7 @@
 //! The page log under it: room before each append, a stop in one, and what is opened then.
 ghost use Rattle.std.specs.Prelude.{◌≡◌, ◌+◌, ◌*◌, ◌<◌, ◌≤◌, ◌++◌, [], ◌∷◌, ℕ, List, length, replicate, Ok, Some, IfOk, IfErr, OnOk};
 ghost use Rattle.hy_base.specs.Shape.{IsGoodShape};
-ghost use Rattle.hy_formats.specs.LogFormat.{IsBody};
+ghost use Rattle.hy_formats.specs.LogFormat.{IsBody, uncut};
 ghost use Rattle.hy_formats.specs.LogDevice.{Holds};
 ghost use Rattle.hy_disk.specs.Strikes.{IsUnarmed};
 ghost use Rattle.hy_mem.specs.MemDisk.{content_of, HasRoom, Strikes};
@@ -88,9 +88,9 @@ fn reopen(alloc: Global, disk: MemDisk, shape: Shape) -> Result<PageLog<MemDisk>
     requires good { IsGoodShape shape }
     requires room { HasRoom disk 7 258 }
     requires unarmed { IsUnarmed (Strikes disk) }
-    requires holds { (bodies : List (List ℕ)) × Holds shape bodies (content_of disk).seen }
+    requires holds { (bodies : List (List ℕ)) × Holds (uncut shape) bodies (content_of disk).seen }
     ensures steady { IfOk result IsSteady }
-    ensures log { (bodies : List (List ℕ)) → Holds shape bodies (content_of disk).seen → IfOk result (λ log. (log.shape ≡ shape) × (log.bodies ≡ bodies)) }
+    ensures log { (bodies : List (List ℕ)) → Holds (uncut shape) bodies (content_of disk).seen → IfOk result (λ log. (log.shape ≡ shape) × (log.bodies ≡ bodies)) }
 {
     opened(open_log(alloc, disk, Some(shape)))
 }

@@ -13,7 +13,7 @@ use Rattle.hy_formats.specs.declared.refusal.OpenError.TheVariants as opening
 use Rattle.hy_log.specs.View.{LogView}
 use Rattle.hy_formats.specs.declared.damage.LogPlace.TheVariants.{Page, Entry}
 use Rattle.hy_run.specs.Fates.{Fate, LeavesLog, WasOpened, acked_by, unopened}
-use Rattle.hy_run.specs.Inspection.{IsDamaged, IsReport}
+use Rattle.hy_run.specs.Inspection.{IsReport, IsUntold}
 use Rattle.hy_run.specs.Jobs.{IsOpenedIfBorn, LeavesUnborn}
 use Rattle.hy_run.specs.Output.{IsFault}
 use Rattle.hy_run.specs.Over.{Over}
@@ -22,9 +22,9 @@ use Rattle.hy_run.specs.declared.status.Status.{Status}
 use Rattle.hy_run.specs.declared.status.Status.TheVariants as status
 use Rattle.hy_run.specs.declared.status.Which.TheVariants as which
 
--- Why there is no text: the log is refused at its first place, the device failed, or memory ran out.
-abbrev pub IsLogFault : Bool → Result Recovered LogFault → ℕ → ℕ → Status → Type 0
-IsLogFault tells expected faults faults_now status = IsFault (λ line why. ⊥) (IsDamaged tells expected) ⊥ (λ device. (device ≡ which.Log) × Rose faults faults_now) status
+-- Why there is no text: the log is refused at its first place, or was cut; the device failed, or memory ran out.
+abbrev pub IsLogFault : Report → Bool → Result Recovered LogFault → ℕ → ℕ → Status → Type 0
+IsLogFault report tells expected faults faults_now status = IsFault (λ line why. ⊥) (IsUntold report tells expected) ⊥ (λ device. (device ≡ which.Log) × Rose faults faults_now) status
 
 abbrev pub audit_fault : AuditError → Status
 audit_fault auditing.Memory = status.Memory
@@ -45,6 +45,7 @@ pub record IsOnlySeen {D : Type 0} (content : D → Content) (moment : D → ℕ
   pub quiet : LeavesOnly moment left_since old.disk new.disk (Image (content old.disk))
   pub later : faults_of old.disk ≤ faults_of new.disk
   pub shape : new.shape ≡ old.shape
+  pub from : new.from ≡ old.from
   pub stopped : new.stopped ≡ old.stopped
   pub bodies : new.bodies ≡ old.bodies
 
@@ -52,6 +53,7 @@ pub record IsOnlySeen {D : Type 0} (content : D → Content) (moment : D → ℕ
 abbrev pub FitsLook : Status → Fate → Type 0
 FitsLook (status.Log (Page page) why) fate = fate ≡ unopened
 FitsLook (status.Log (Entry pos) why) fate = WasOpened fate
+FitsLook (status.Behind base from) fate = WasOpened fate
 FitsLook (status.Device which.Log) fate = (fate ≡ unopened) ⊎ WasOpened fate
 FitsLook status.Memory fate = ⊤
 FitsLook _ fate = ⊥
@@ -60,7 +62,7 @@ FitsLook _ fate = ⊥
 pub record IsInspection {V : Type 0} (items : V → Text) (report : Report) (log : Over) (text : Result V Status) (acked : ℕ) : Type 0 where
   pub fate : Fate
   pub is : IfOk text (λ v. IsReport report log.tells (recovered log.before.seen) (items v) × IsOpenedIfBorn log fate)
-  pub cause : IfErr text (IsLogFault log.tells (recovered log.before.seen) log.faults log.faults_now)
+  pub cause : IfErr text (IsLogFault report log.tells (recovered log.before.seen) log.faults log.faults_now)
   pub comes_first : IfErr text (λ s. FitsLook s fate)
   pub may_leave : LeavesUnborn log fate
   pub log_left : LeavesLog log fate None

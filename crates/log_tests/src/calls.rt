@@ -2,13 +2,13 @@
 //! the batch and of memory is seen to as it runs: `None` where that isn't given.
 ghost use Rattle.std.specs.Prelude.{◌≡◌, ◌≤◌, length, IfOk, IfSome};
 ghost use Rattle.hy_base.specs.Shape.{IsGoodShape};
-ghost use Rattle.hy_formats.specs.LogFormat.{longest_record};
+ghost use Rattle.hy_formats.specs.LogFormat.{IsGoodHeader, longest_record};
 
 use crate::memory_device;
 use hy_base::{Pos, Shape};
 use hy_disk::{Disk, Failed, Tuned};
 use hy_formats::{BadPage, Damage, LONGEST_RECORD, longest_body};
-use hy_log::{AddError, AppendError, OpenError, PageLog, RefusedLog, open_log};
+use hy_log::{AddError, AppendError, OpenError, PageLog, RefusedLog, open_cut, open_log};
 use hy_mem::MemDisk;
 use std::alloc::{AllocError, Global};
 use std::test::Fail;
@@ -131,6 +131,23 @@ pub fn empty_log(alloc: Global, shape: Shape) -> Result<PageLog<MemDisk>, Fail>
     log_on(alloc, MemDisk::new(alloc, &[], &[])?, shape)
 }
 
+/// The log on a device, which is given room for a few appends. An unborn one gets the header of a log that was cut.
+pub fn cut_log_on(
+    alloc: Global,
+    disk: MemDisk,
+    shape: Shape,
+    from: Pos,
+) -> Result<PageLog<MemDisk>, Fail>
+    requires { IsGoodHeader (record { shape = shape; from = from }) }
+{
+    let mut disk = disk;
+    give_room(&mut disk)?;
+    match open_cut(alloc, disk, shape, from) {
+        Ok(log) => Ok(log),
+        Err(_) => Err("not opened")?,
+    }
+}
+
 /// The device of a log.
 pub fn close<D: Disk>(log: PageLog<D>) -> D {
     log.close()
@@ -187,7 +204,7 @@ fn body_buffer(alloc: Global) -> Result<Vec<u8>, AllocError>
 
 /// Whether this body is read at a position.
 pub fn reads<D: Disk>(alloc: Global, log: &mut PageLog<D>, pos: Pos, body: &[u8]) -> bool {
-    if pos == 0 || pos > log.len() {
+    if pos <= log.from() || pos > log.len() {
         return false;
     }
     let Ok(mut buffer) = body_buffer(alloc) else {

@@ -13,6 +13,8 @@ mod calls;
 #[cfg(test)]
 mod codec;
 #[cfg(test)]
+mod cut_logs;
+#[cfg(test)]
 mod damaged_devices;
 #[cfg(test)]
 mod entries;

@@ -5,6 +5,7 @@ use crate::entries::{letter, one_write};
 use hy_base::{
     Clash, Entry, Intention, Isolation, Items, Pos, Row, Shape, Shared, Span, Verdict, Write,
 };
+use hy_formats::Header;
 use hy_text::{memory_line, page_line, write_check, write_dump, write_summary};
 use std::alloc::{AllocError, Global};
 use std::test::Fail;
@@ -50,15 +51,20 @@ fn three_entries(alloc: Global) -> Result<Vec<Entry>, Fail> {
     Ok(vec![in alloc; first, Entry::filler(4), last]?)
 }
 
-// The dump of these entries in a log of a version.
-fn dump_of_three(alloc: Global, version: u8, horizon: Option<Pos>) -> Result<Vec<u8>, Fail> {
+// The dump of these entries in a log of a version that was cut at a position.
+fn dump_of_three(
+    alloc: Global,
+    version: u8,
+    horizon: Option<Pos>,
+    from: Pos,
+) -> Result<Vec<u8>, Fail> {
     let entries = three_entries(alloc)?;
     let shape = Shape {
         version,
         horizon,
         ..SHAPE
     };
-    let dump = write_dump(alloc, Some(shape), &entries);
+    let dump = write_dump(alloc, Some(Header { shape, from }), &entries);
     drop(entries);
     Ok(dump?)
 }
@@ -69,21 +75,30 @@ fn a_log_with_an_open_group_is_dumped(rt: HostRuntime) -> Result<(), Fail> {
         (
             1,
             None,
+            0,
             "log group 2 window 3 cap 64 entries 3\nentry 1 server 8 client 128 snap 7 points 1 spans 2 writes 3\nentry 2 server 4 filler\nentry 3 server 1 client 1 snap 0 points 0 spans 0 writes 1\n",
         ),
         (
             2,
             None,
+            0,
             "log group 2 window 3 cap 64 version 2 entries 3\nentry 1 server 8 client 128 snap 7 points 1 spans 2 writes 3 iso 0\nentry 2 server 4 filler\nentry 3 server 1 client 1 snap 0 points 0 spans 0 writes 1 iso 0\n",
         ),
         (
             3,
             Some(2147483648),
+            0,
             "log group 2 window 3 cap 64 version 3 horizon 2147483648 entries 3\nentry 1 server 8 client 128 snap 7 points 1 spans 2 writes 3 iso 0\nentry 2 server 4 filler\nentry 3 server 1 client 1 snap 0 points 0 spans 0 writes 1 iso 0\n",
         ),
+        (
+            1,
+            None,
+            12,
+            "log group 2 window 3 cap 64 from 12 entries 3\nentry 13 server 8 client 128 snap 7 points 1 spans 2 writes 3\nentry 14 server 4 filler\nentry 15 server 1 client 1 snap 0 points 0 spans 0 writes 1\n",
+        ),
     ];
-    for (version, horizon, wanted) in rows {
-        let dump = dump_of_three(rt.alloc(), version, horizon)?;
+    for (version, horizon, from, wanted) in rows {
+        let dump = dump_of_three(rt.alloc(), version, horizon, from)?;
         assert!(rt; dump.as_slice() == wanted.as_bytes(), "version {version}");
     }
     Ok(())

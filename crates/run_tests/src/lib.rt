@@ -6,6 +6,8 @@
 #[cfg(test)]
 mod calls;
 #[cfg(test)]
+mod compactions;
+#[cfg(test)]
 mod courses;
 #[cfg(test)]
 mod failures;

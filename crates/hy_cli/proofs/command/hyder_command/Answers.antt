@@ -12,5 +12,6 @@ returns c =
     c.in_ok-app.ensures run_command c.run_command.ensures ∙ ap (λ a. with_command a run_command) c.program.ensures in
     let sim_is = c.in_ok-with_command.ensures sim_command c.sim_command.ensures ∙ ap (λ a. with_command a sim_command) run_is in
     let recover_is = c.in_ok-subcommand.ensures.shape c.new.ensures.local ∙ ap₂ with_subcommand sim_is (shape _ _ c.new.ensures.app) in
-    let check_is = c.in_ok-app-2.ensures.shape c.new-2.ensures.local ∙ ap₂ with_subcommand recover_is (shape _ _ c.new-2.ensures.app) in
-    IfOk-weaker c.with_command-3.result _ _ (λ r h. h load_command c.load_command.ensures ∙ ap (λ a. with_command a load_command) check_is) c.with_command-3.ensures
+    let check_is = c.in_ok-subcommand-2.ensures.shape c.new-2.ensures.local ∙ ap₂ with_subcommand recover_is (shape _ _ c.new-2.ensures.app) in
+    let compact_is = c.in_ok-app-2.ensures.shape c.new-3.ensures.local ∙ ap₂ with_subcommand check_is (shape _ _ c.new-3.ensures.app) in
+    IfOk-weaker c.with_command-3.result _ _ (λ r h. h load_command c.load_command.ensures ∙ ap (λ a. with_command a load_command) compact_is) c.with_command-3.ensures

@@ -19,17 +19,17 @@ threads_of-requires-in-sim c = sim_accepted c.args.name.now (rows_of (found_of c
 
 pub seed_of-requires : goal.seed_of-requires
 seed_of-requires c =
-    let is = load_left c.args.name.now c.requires.known c.in_default.not-recover c.in_default.not-check c.in_default.not-run c.in_default.not-sim in
+    let is = load_left c.args.name.now c.requires.known c.in_default.not-recover c.in_default.not-check c.in_default.not-compact c.in_default.not-run c.in_default.not-sim in
     (load_accepted c.args.name.now (rows_of (found_of c.args.found.now)) is c.requires.accepted).0
 
 pub size_of-requires : goal.size_of-requires
 size_of-requires c =
-    let is = load_left c.args.name.now c.requires.known c.in_default.not-recover c.in_default.not-check c.in_default.not-run c.in_default.not-sim in
+    let is = load_left c.args.name.now c.requires.known c.in_default.not-recover c.in_default.not-check c.in_default.not-compact c.in_default.not-run c.in_default.not-sim in
     (load_accepted c.args.name.now (rows_of (found_of c.args.found.now)) is c.requires.accepted).1
 
 pub threads_of-requires-in_default : goal.threads_of-requires-in_default
 threads_of-requires-in_default c =
-    let is = load_left c.args.name.now c.requires.known c.in_default.not-recover c.in_default.not-check c.in_default.not-run c.in_default.not-sim in
+    let is = load_left c.args.name.now c.requires.known c.in_default.not-recover c.in_default.not-check c.in_default.not-compact c.in_default.not-run c.in_default.not-sim in
     (load_accepted c.args.name.now (rows_of (found_of c.args.found.now)) is c.requires.accepted).2
 
 pub returns-in-recover-clause-word : goal.returns-in-recover-clause-word
@@ -43,6 +43,12 @@ returns-in-check-clause-word c = sym c.in-check.is
 
 pub returns-in-check-clause-line : goal.returns-in-check-clause-line
 returns-in-check-clause-line c = ap (λ n. line_found n (rows_of (found_of c.args.found.now))) c.in-check.is
+
+pub returns-in-compact-clause-word : goal.returns-in-compact-clause-word
+returns-in-compact-clause-word c = sym c.in-compact.is
+
+pub returns-in-compact-clause-line : goal.returns-in-compact-clause-line
+returns-in-compact-clause-line c = ap (λ n. line_found n (rows_of (found_of c.args.found.now))) c.in-compact.is
 
 pub returns-in-run-clause-word : goal.returns-in-run-clause-word
 returns-in-run-clause-word c = sym c.in-run.is
@@ -58,9 +64,9 @@ pub returns-in-sim-clause-line : goal.returns-in-sim-clause-line
 returns-in-sim-clause-line c = ap (λ n. line_found n (rows_of (found_of c.args.found.now))) c.in-sim.is ∙ (λ i. Some (Sim (sym c.threads_of-in-sim.ensures.value i)))
 
 pub returns-in_default-clause-word : goal.returns-in_default-clause-word
-returns-in_default-clause-word c = sym (load_left c.args.name.now c.requires.known c.in_default.not-recover c.in_default.not-check c.in_default.not-run c.in_default.not-sim)
+returns-in_default-clause-word c = sym (load_left c.args.name.now c.requires.known c.in_default.not-recover c.in_default.not-check c.in_default.not-compact c.in_default.not-run c.in_default.not-sim)
 
 pub returns-in_default-clause-line : goal.returns-in_default-clause-line
 returns-in_default-clause-line c =
-    let is = load_left c.args.name.now c.requires.known c.in_default.not-recover c.in_default.not-check c.in_default.not-run c.in_default.not-sim in
+    let is = load_left c.args.name.now c.requires.known c.in_default.not-recover c.in_default.not-check c.in_default.not-compact c.in_default.not-run c.in_default.not-sim in
     ap (λ n. line_found n (rows_of (found_of c.args.found.now))) is ∙ (λ i. Some (Load (sym c.seed_of.ensures i) (sym c.size_of.ensures.value i) (sym c.threads_of-in_default.ensures.value i)))

@@ -19,10 +19,10 @@ pub overflow_mul-next : goal.overflow_mul-next
 overflow_mul-next g c = omega (arith, pages_few c.self.inside.frontier c.self.inside.laid c.self.invariant.log.waits, c.self.invariant.log.waits.few)
 
 pub overflow_add-next : goal.overflow_add-next
-overflow_add-next g c = omega (arith, pages_few c.self.inside.frontier c.self.inside.laid c.self.invariant.log.waits, c.self.invariant.log.waits.few, c.self.invariant.log.fits, c.self.invariant.log.within, c.self.invariant.log.good.cap)
+overflow_add-next g c = omega (arith, pages_few c.self.inside.frontier c.self.inside.laid c.self.invariant.log.waits, c.self.invariant.log.waits.few, c.self.invariant.log.fits, c.self.invariant.log.within, c.self.invariant.log.good.shape.cap)
 
 pub overflow_add-self : goal.overflow_add-self
-overflow_add-self g c = omega (arith, pages_few c.self.inside.frontier c.self.inside.laid c.self.invariant.log.waits, c.self.invariant.log.waits.few, c.self.invariant.log.fits, c.self.invariant.log.within, c.self.invariant.log.good.cap)
+overflow_add-self g c = omega (arith, pages_few c.self.inside.frontier c.self.inside.laid c.self.invariant.log.waits, c.self.invariant.log.waits.few, c.self.invariant.log.fits, c.self.invariant.log.within, c.self.invariant.log.good.shape.cap)
 
 pub overflow_mul-pages : goal.overflow_mul-pages
 overflow_mul-pages g c = omega (arith, pages_few (c.self.inside.frontier + c.self.inside.laid.pages) c.self.inside.batch c.self.invariant.waits, c.self.invariant.waits.few)
@@ -39,7 +39,7 @@ store_ahead-requires-clause-fits g c =
       c.self.invariant.log.waits.few,
       c.self.invariant.log.fits,
       c.self.invariant.log.within,
-      c.self.invariant.log.good.cap,
+      c.self.invariant.log.good.shape.cap,
       pages_few (c.self.inside.frontier + c.self.inside.laid.pages) c.self.inside.batch c.self.invariant.waits,
       c.self.invariant.waits.few,
     )
@@ -101,7 +101,7 @@ invariant_of-self g c =
         fits = inv.log.fits;
         before = inv.log.before;
         waits = c.clear.ensures.waits p.frontier p.frontier inv.log.waits;
-        sound = none_sound p.shape.version p.frontier c.clear.new.self c.clear.ensures.none;
+        sound = none_sound p.header.shape.version p.frontier c.clear.new.self c.clear.ensures.none;
         front = λ told. commit_front put new told (images told) (stays told);
         at_rest = λ told none. absurd cc;
         dropped = λ at is. c.clear.ensures.none;
@@ -110,7 +110,7 @@ invariant_of-self g c =
       within = omega (arith, inv.within, ap length c.clear.ensures.none, ap length c.clear-in_default.ensures.none);
       reserved = omega (arith, inv.reserved, ap length c.clear.ensures.none, ap length c.clear-in_default.ensures.none);
       waits = c.clear-in_default.ensures.waits (p.frontier + p.laid.pages) (p.frontier + c.clear.new.self.pages) inv.waits;
-      sound = none_sound p.shape.version (p.frontier + c.clear.new.self.pages) c.clear-in_default.new.self c.clear-in_default.ensures.none;
+      sound = none_sound p.header.shape.version (p.frontier + c.clear.new.self.pages) c.clear-in_default.new.self c.clear-in_default.ensures.none;
       stands = λ told none. absurd cc;
       none_waits = λ at is. c.clear-in_default.ensures.none;
     }
@@ -136,8 +136,8 @@ invariant_of-self-2 g c =
         fits = omega (arith, ap length moved, all, inv.log.fits, pages_few p.frontier p.laid inv.log.waits);
         before = subst (AllByRecursion (IsEarlierPlace page)) (sym moved) (laid_before put);
         waits = subst (IsWaiting page) (sym c.swap.ensures.x_after) inv.waits;
-        sound = subst (λ (b : BodyBatch). AllByRecursion (IsBody p.shape.version) (waiting page b)) (sym c.swap.ensures.x_after) inv.sound;
-        front = λ told. subst (λ (ps : List BodyPlace). IsFront p.shape (bodies_at (g.D.Disk.content new).seen ps) page (g.D.Disk.content new).seen) (sym moved) (committed_front put new told (stored told));
+        sound = subst (λ (b : BodyBatch). AllByRecursion (IsBody p.header.shape.version) (waiting page b)) (sym c.swap.ensures.x_after) inv.sound;
+        front = λ told. subst (λ (ps : List BodyPlace). IsFront p.header (bodies_at (g.D.Disk.content new).seen ps) page (g.D.Disk.content new).seen) (sym moved) (committed_front put new told (stored told));
         at_rest = λ told none. committed_closed put new told (stored told);
         dropped = λ at is. absurd cc;
         torn = λ told at is. absurd cc;
@@ -145,7 +145,7 @@ invariant_of-self-2 g c =
       within = omega (arith, ap length moved, all, next, empty, inv.within);
       reserved = omega (arith, ap length moved, all, next, empty, inv.reserved, c.move_to.ensures.capacity);
       waits = subst (IsWaiting (page + c.swap.new.x.pages)) (sym c.swap.ensures.y_after) (c.move_to.ensures.waits p.frontier (page + c.swap.new.x.pages) inv.log.waits);
-      sound = none_sound p.shape.version (page + c.swap.new.x.pages) c.swap.new.y (ap (λ (b : BodyBatch). b.places.items) c.swap.ensures.y_after ∙ c.move_to.ensures.none);
+      sound = none_sound p.header.shape.version (page + c.swap.new.x.pages) c.swap.new.y (ap (λ (b : BodyBatch). b.places.items) c.swap.ensures.y_after ∙ c.move_to.ensures.none);
       stands = λ told none. subst (λ (b : BodyBatch). AreLaid page (waiting page b) (g.D.Disk.content new).seen) (sym c.swap.ensures.x_after) (committed_laid put new told (stored told));
       none_waits = λ at is. absurd cc;
     }
@@ -176,5 +176,5 @@ returns-clause-acknowledged g c =
     rw (← c.self.view_is) (λ told. (
       ap (bodies_at (g.D.Disk.content new).seen) moved ∙ committed_bodies put new told (c.in-Ok.ensures.stored told),
       (committed_closed put new told (c.in-Ok.ensures.stored told)).durable,
-      subst (λ (ps : List BodyPlace). Holds c.self.inside.shape (bodies_at (g.D.Disk.content new).seen ps) (g.D.Disk.content new).seen) (sym moved) (committed_log put new told (c.in-Ok.ensures.stored told)),
+      subst (λ (ps : List BodyPlace). Holds c.self.inside.header (bodies_at (g.D.Disk.content new).seen ps) (g.D.Disk.content new).seen) (sym moved) (committed_log put new told (c.in-Ok.ensures.stored told)),
     ))

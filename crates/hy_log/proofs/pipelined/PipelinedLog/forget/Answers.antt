@@ -15,7 +15,7 @@ invariant_of-self g c =
         fits = log.fits;
         before = log.before;
         waits = c.clear.ensures.waits p.frontier p.frontier log.waits;
-        sound = none_sound p.shape.version p.frontier c.clear.new.self c.clear.ensures.none;
+        sound = none_sound p.header.shape.version p.frontier c.clear.new.self c.clear.ensures.none;
         front = log.front;
         at_rest = log.at_rest;
         dropped = λ at is. c.clear.ensures.none;
@@ -24,7 +24,7 @@ invariant_of-self g c =
       within = omega (arith, c.self.invariant.within, ap length c.clear.ensures.none, ap length c.clear-2.ensures.none);
       reserved = omega (arith, c.self.invariant.reserved, ap length c.clear.ensures.none, ap length c.clear-2.ensures.none);
       waits = c.clear-2.ensures.waits (p.frontier + p.laid.pages) (p.frontier + c.clear.new.self.pages) c.self.invariant.waits;
-      sound = none_sound p.shape.version (p.frontier + c.clear.new.self.pages) c.clear-2.new.self c.clear-2.ensures.none;
+      sound = none_sound p.header.shape.version (p.frontier + c.clear.new.self.pages) c.clear-2.new.self c.clear-2.ensures.none;
       stands = λ told running. none_laid p.frontier _ _ (none_waiting p.frontier c.clear.new.self c.clear.ensures.none);
       none_waits = λ at is. c.clear-2.ensures.none;
     }

@@ -25,7 +25,7 @@ invariant_of-result g c =
       within = omega (arith, log.within, ap length c.in-Ok.ensures.none);
       reserved = omega (arith, log.reserved, ap length c.in-Ok.ensures.none);
       waits = c.in-Ok.ensures.waits (c.log.inside.frontier + c.log.inside.batch.pages);
-      sound = none_sound c.log.inside.shape.version (c.log.inside.frontier + c.log.inside.batch.pages) c.in-Ok.batch c.in-Ok.ensures.none;
+      sound = none_sound c.log.inside.header.shape.version (c.log.inside.frontier + c.log.inside.batch.pages) c.in-Ok.batch c.in-Ok.ensures.none;
       stands = λ told running. none_laid c.log.inside.frontier _ _ none;
       none_waits = λ at is. c.in-Ok.ensures.none;
     }
