@@ -11,6 +11,8 @@ PAGE = 256
 GATE = 0x47
 MAGIC = b"HYDERLOG"
 MAGIC_OF_CUT = b"HYDERCUT"
+STREAM_MAGIC = b"HYDERSTR"
+STREAM_HEAD = 19
 U64 = 2**64 - 1
 MOST_CAP = 2147483648
 MOST_HORIZON = 2147483648
@@ -176,6 +178,48 @@ def encode(entry, version=1):
     parts += [struct.pack("<QQ", lo, hi) for lo, hi in entry.spans]
     parts += [struct.pack("<Q", key) + value_bytes(value) for key, value in entry.writes]
     return b"".join(parts)
+
+
+# ---- the stream of a log
+
+def stream_of(shape, entries):
+    """The bytes that tell another host the shape and the entries."""
+    frames = [encode(entry, shape.version) for entry in entries]
+    head = STREAM_MAGIC + struct.pack("<BBBII", shape.version, shape.group, shape.window, shape.cap, shape.horizon or 0)
+    return head + b"".join(struct.pack("<I", len(body)) + body for body in frames)
+
+
+def read_stream(stream):
+    """The shape and the entries of a whole stream, no shape where it has no byte."""
+    if not stream:
+        return None, []
+    if len(stream) < STREAM_HEAD:
+        raise Bad(0, "short")
+    if stream[:8] != STREAM_MAGIC:
+        raise Bad(0, "magic")
+    version, group, window, cap, told = struct.unpack("<BBBII", stream[8:STREAM_HEAD])
+    if version not in (1, 2, 3):
+        raise Bad(8, "version")
+    shape = Shape(group, window, cap, version, told if has_horizon(version) else None)
+    if not is_good(shape) or told and not has_horizon(version):
+        raise Bad(9, "shape")
+    place, entries = STREAM_HEAD, []
+    while place < len(stream):
+        if place + 4 > len(stream):
+            raise Bad(place, "short")
+        length = int.from_bytes(stream[place:place + 4], "little")
+        if len(entries) == cap:
+            raise Bad(place, "cap")
+        if not 1 <= length <= most_body(version):
+            raise Bad(place, "length")
+        if place + 4 + length > len(stream):
+            raise Bad(place, "short")
+        try:
+            entries.append(decode_at(stream[place + 4:place + 4 + length], len(entries) + 1, shape))
+        except Bad as bad:
+            raise Bad(place + 4 + bad.place, bad.why)
+        place += 4 + length
+    return shape, entries
 
 
 # ---- the device of the log
@@ -942,7 +986,7 @@ def summary_text(seed, size, core):
 
 # ---- the whole call
 
-USAGE = b"hyder: usage: run|sim|recover|check|load|compact\n"
+USAGE = b"hyder: usage: run|sim|recover|check|load|compact|ship|follow\n"
 
 
 class Fault(Exception):
@@ -1026,6 +1070,14 @@ class Call:
             self.spare, page = appended(self.spare, page, encode(entry, shape.version))
         return b"compact from %d entries %d\n" % (base, len(kept))
 
+    def follow(self, source):
+        try:
+            if len(source) > MOST_SOURCE:
+                raise Bad(MOST_SOURCE, "long")
+            return check_text(*read_stream(source))
+        except Bad as bad:
+            raise Fault(12, "frame at %d %s" % (bad.place, bad.why))
+
     def simulate(self, source):
         script, events = read_source(source, True)
         core = Core(script)
@@ -1049,17 +1101,21 @@ class Call:
             return summary_text(seed, size, core)
         if command == "compact":
             return self.compact()
+        if command == "follow":
+            return self.follow(source)
         shape, entries, _ = self.opened()
         if command == "recover":
             return dump_text(shape, entries, self.cut)
         self.not_behind(None)
+        if command == "ship":
+            return stream_of(shape, entries) if shape else b""
         return check_text(shape, entries)
 
 
 def answer(words, source=b"", log=None, points=None, spare=None):
     """What the words, the program's name left out, are answered. The words have to be a line or no command of the table."""
     call = Call(log, points, spare)
-    if not words or words[0] not in ("run", "sim", "recover", "check", "load", "compact"):
+    if not words or words[0] not in ("run", "sim", "recover", "check", "load", "compact", "ship", "follow"):
         return Answer(1, USAGE, log, points, spare)
     try:
         return Answer(0, call.obey(words[0], words[1:], source), call.log, call.points, call.spare)

@@ -12,9 +12,9 @@ ghost use Rattle.hy_core.specs.Course.{Course, IsReached, Advances, Breaks, Foll
 
 use crate::moves::perform;
 use crate::parts::{Parts, board_at, may_happen, open, roller_of};
-use crate::replies::{all_replies, all_verdicts, reads_in};
+use crate::replies::{all_replies, reads_in};
 use crate::tail::next_event;
-use hy_base::{Entry, Event, Items, Pos, Replies, Script, Shared, Verdict};
+use hy_base::{Entry, Event, Items, Pos, Replies, Script, Shared, Verdicts};
 use hy_pipe::Gate;
 use hy_tree::Tree;
 use std::alloc::{AllocError, Global};
@@ -204,16 +204,16 @@ impl Core {
     }
 
     /// The verdicts of a finished run's log, one for each position; a filler has none. `AllocError`: out of memory.
-    pub fn verdicts(&self, alloc: Global) -> Result<Vec<Option<Verdict>>, AllocError>
+    pub fn verdicts(&self, alloc: Global) -> Result<Verdicts, AllocError>
         requires finished { is_finished self.now.script self.now.state ≡ true }
-        ensures { IfOk result (λ vs. vs.items ≡ verdicts self.now.script.shape self.now.state.log (length self.now.state.log)) }
+        ensures { IfOk result (λ vs. vs ≡ verdicts self.now.script.shape self.now.state.log (length self.now.state.log)) }
     {
         // The shape of a script is good.
         let _shape = self.script.shape();
         let Some(roller) = roller_of(&self.parts.rollers, 1) else {
             unreachable!();
         };
-        all_verdicts(alloc, roller)
+        roller.kept_verdicts(alloc)
     }
 
     /// How many of the programs that ended only read.

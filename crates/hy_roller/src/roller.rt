@@ -239,6 +239,14 @@ impl Roller {
         self.verdicts.get(pos - self.from)
     }
 
+    /// The verdicts that it keeps, those of the positions past the one at which it was resumed. `AllocError` where memory
+    /// runs out.
+    pub fn kept_verdicts(&self, alloc: Global) -> Result<Verdicts, AllocError>
+        ensures { IfOk result (λ vs. vs ≡ self.now.rolled.verdicts) }
+    {
+        self.verdicts.all(alloc)
+    }
+
     /// What became of a program with this snapshot that ended so; of one that left an entry, where this roller keeps its verdict.
     pub fn outcome(&self, snap: Pos, end: ProgramEnd) -> Option<Outcome>
         ensures { result ≡ outcome_by self.now snap end }

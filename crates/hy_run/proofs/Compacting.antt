@@ -1,5 +1,5 @@
 -- What a copy of a log comes to.
-use Rattle.std.proofs.Common.{◌≡◌, ◌≢◌, ℕ, suc, zero, ◌+◌, ◌-◌, ◌*◌, ◌%◌, ◌/◌, ◌<◌, ◌≤◌, Bool, true, false, IsTrue, List, [], ◌∷◌, length, map, take, drop, refl, sym, ◌∙◌, ap, subst, inl, inr, ⊎_elim, arith, length-drop}
+use Rattle.std.proofs.Common.{◌≡◌, ℕ, suc, zero, ◌+◌, ◌-◌, ◌*◌, ◌%◌, ◌/◌, ◌<◌, ◌≤◌, Bool, true, false, IsTrue, List, [], ◌∷◌, length, map, take, drop, refl, sym, ◌∙◌, ap, subst, inl, inr, ⊎_elim, arith, length-drop}
 use Rattle.std.specs.Prelude.{◌⊎◌, Option, Some, None, Result, Ok, Err, IfOk, IfErr, IsErrAnd, nat_lt, if◌then◌else◌, ⊤}
 use Rattle.std.specs.List.{AllByRecursion}
 use Rattle.std.proofs.lemmas.Bool.{le-ltb, lt-ltb, true≢false}
@@ -32,9 +32,9 @@ use Rattle.hy_formats.specs.Texts.{compact_text}
 use Rattle.hy_rules.specs.CutLogs.{AreLawfulPast, IsWholeOf}
 use Rattle.hy_rules.specs.Recovery.{decoded_held, decoded_log, entries_with, recovered}
 use Rattle.hy_codec.specs.CodecLaws.{BodiesAreRead}
-use Rattle.hy_check.specs.declared.auditing.AuditError.{AuditError}
-use Rattle.hy_check.specs.declared.auditing.AuditError.TheVariants as auditing
-use Rattle.hy_check.specs.Auditing.{AreFoundIn, OnlyLooks, RefusesEntry}
+use Rattle.hy_entries.specs.declared.reading.EntriesError.{EntriesError}
+use Rattle.hy_entries.specs.declared.reading.EntriesError.TheVariants as entries_error
+use Rattle.hy_entries.specs.LogEntries.{AreFoundIn, OnlyLooks, RefusesEntry}
 use Rattle.hy_disk.specs.Content.{Content, Image, settled}
 use Rattle.hy_disk.specs.Moments.{LeavesOnly, OnlyReads}
 use Rattle.hy_disk.proofs.Images.{image_settled}
@@ -50,7 +50,7 @@ use Rattle.hy_run.specs.Copies.{FitsBase, IsBaseFault, IsCopyFault, IsCopyOf, Is
 use Rattle.hy_run.specs.Fates.{Fits, LeavesLog, opened, unopened}
 use Rattle.hy_run.specs.Handovers.{IsCause, IsDone}
 use Rattle.hy_run.specs.Jobs.{LeavesUnborn, compacts, meaning, only_point}
-use Rattle.hy_run.specs.Looking.{IsOnlySeen, audit_fault}
+use Rattle.hy_run.specs.Looking.{IsOnlySeen, entries_fault}
 use Rattle.hy_run.specs.Output.{IsFault}
 use Rattle.hy_run.specs.Over.{HasFailed, IsOnlyRead, LeavesEver, Over, over}
 use Rattle.hy_run.specs.Running.{restart_fault}
@@ -114,11 +114,11 @@ base_plan_fault tells h bodies bytes entries lf lf_now pf pf_now s read is =
     (λ line why. ⊥) (λ x. IsTrue tells → (spare : List ℕ) → copy_refused (decoded_log (Some h) bodies) bytes spare ≡ Some x) ⊥ (λ device. ((device ≡ which.Log) × Rose lf lf_now) ⊎ ((device ≡ which.Points) × Rose pf pf_now))
     (λ n why never. never) (λ x kind bad told spare. refused_past h bodies entries bytes spare x (read told) (bad told spare)) (λ never. never) (λ one failed. inr failed) s is
 
-pub audit_plan_fault : (tells : Bool) (h : Header) (bodies : List (List ℕ)) (bytes : List ℕ) (lf lf_now pf pf_now : ℕ) (e : AuditError) → (IsTrue tells → RefusesEntry e (entries_past h.shape h.from bodies)) → (e ≡ auditing.Device → Rose lf lf_now)
-    → IsPlanFault tells h bodies bytes lf lf_now pf pf_now (audit_fault e)
-audit_plan_fault tells h bodies bytes lf lf_now pf pf_now auditing.Memory refuses rose = tt
-audit_plan_fault tells h bodies bytes lf lf_now pf pf_now auditing.Device refuses rose = inl (refl, rose refl)
-audit_plan_fault tells h bodies bytes lf lf_now pf pf_now (auditing.BadEntry pos bad) refuses rose = λ told spare. ap (λ r. copy_refused (entries_with h r) bytes spare) (refuses told)
+pub audit_plan_fault : (tells : Bool) (h : Header) (bodies : List (List ℕ)) (bytes : List ℕ) (lf lf_now pf pf_now : ℕ) (e : EntriesError) → (IsTrue tells → RefusesEntry e (entries_past h.shape h.from bodies)) → (e ≡ entries_error.Device → Rose lf lf_now)
+    → IsPlanFault tells h bodies bytes lf lf_now pf pf_now (entries_fault e)
+audit_plan_fault tells h bodies bytes lf lf_now pf pf_now entries_error.Memory refuses rose = tt
+audit_plan_fault tells h bodies bytes lf lf_now pf pf_now entries_error.Device refuses rose = inl (refl, rose refl)
+audit_plan_fault tells h bodies bytes lf lf_now pf pf_now (entries_error.BadEntry pos bad) refuses rose = λ told spare. ap (λ r. copy_refused (entries_with h r) bytes spare) (refuses told)
 
 -- how far such a call came
 pub base_first : (s : Status) (points : Over) (h : Header) (bodies : List (List ℕ)) → FitsBase s → Fits only_point true s points (opened h bodies)
@@ -138,11 +138,12 @@ base_first (status.Log place why) points h bodies is = absurd is
 base_first (status.Config field held asked) points h bodies is = absurd is
 base_first (status.Behind base from) points h bodies is = absurd is
 base_first status.SpareInUse points h bodies is = absurd is
+base_first (status.Frame place why) points h bodies is = absurd is
 
-pub audit_first : (e : AuditError) (points : Over) (h : Header) (bodies : List (List ℕ)) → IsOnlyRead points → Fits only_point true (audit_fault e) points (opened h bodies)
-audit_first auditing.Memory points h bodies seen = tt
-audit_first auditing.Device points h bodies seen = seen
-audit_first (auditing.BadEntry pos bad) points h bodies seen = (tt, seen)
+pub audit_first : (e : EntriesError) (points : Over) (h : Header) (bodies : List (List ℕ)) → IsOnlyRead points → Fits only_point true (entries_fault e) points (opened h bodies)
+audit_first entries_error.Memory points h bodies seen = tt
+audit_first entries_error.Device points h bodies seen = seen
+audit_first (entries_error.BadEntry pos bad) points h bodies seen = (tt, seen)
 
 -- ---- the copy
 
@@ -199,11 +200,11 @@ module _ (law : BodiesAreRead) (tells : Bool) (h : Header) (bodies : List (List 
   }
 
   -- no entry is refused there, and only the device may fail
-  pub rest_plan_fault : (lf mid lf_now pf pf_now : ℕ) (e : AuditError) → (IsTrue tells → RefusesEntry e (entries_past h.shape point.base (drop skipped bodies))) → lf ≤ mid → (e ≡ auditing.Device → Rose mid lf_now)
-      → IsPlanFault tells h bodies bytes lf lf_now pf pf_now (audit_fault e)
-  rest_plan_fault lf mid lf_now pf pf_now auditing.Memory refuses later rose = tt
-  rest_plan_fault lf mid lf_now pf pf_now auditing.Device refuses later rose = inl (refl, (let risen = rose refl in omega (arith, later, risen)))
-  rest_plan_fault lf mid lf_now pf pf_now (auditing.BadEntry pos bad) refuses later rose = λ told spare. absurd (let wrong : Ok (entries_past_base h entries point) ≡ Err (pos, bad) = sym (read_again told) ∙ refuses told in cc wrong)
+  pub rest_plan_fault : (lf mid lf_now pf pf_now : ℕ) (e : EntriesError) → (IsTrue tells → RefusesEntry e (entries_past h.shape point.base (drop skipped bodies))) → lf ≤ mid → (e ≡ entries_error.Device → Rose mid lf_now)
+      → IsPlanFault tells h bodies bytes lf lf_now pf pf_now (entries_fault e)
+  rest_plan_fault lf mid lf_now pf pf_now entries_error.Memory refuses later rose = tt
+  rest_plan_fault lf mid lf_now pf pf_now entries_error.Device refuses later rose = inl (refl, (let risen = rose refl in omega (arith, later, risen)))
+  rest_plan_fault lf mid lf_now pf pf_now (entries_error.BadEntry pos bad) refuses later rose = λ told spare. absurd (let wrong : Ok (entries_past_base h entries point) ≡ Err (pos, bad) = sym (read_again told) ∙ refuses told in cc wrong)
 
 module _ {V : Type 0} (items : V → Text) (tells : Bool) (h : Header) (bodies : List (List ℕ)) (lf lf_now : ℕ) (points spare : Over) (text : Result V Status) where
   abbrev Causes : Status → Type 0
@@ -236,6 +237,7 @@ module _ {V : Type 0} (items : V → Text) (tells : Bool) (h : Header) (bodies :
     spare_cause status.Memory is = (tt, (tt, tt))
     spare_cause status.SpareInUse is = (λ told. in_use told (is told), (tt, tt))
     spare_cause (status.Device which.Spare) is = (is, (tt, tt))
+    spare_cause (status.Frame place why) is = absurd is
     spare_cause (status.Device which.Log) is = absurd is
     spare_cause (status.Device which.Points) is = absurd is
     spare_cause status.Fine is = absurd is
@@ -300,14 +302,14 @@ module _ (tells : Bool) (h : Header) (bodies : List (List ℕ)) (bytes : List �
 
 -- the log is read once more as it was
 module _ (h : Header) (point : Checkpoint) (bodies mid_bodies : List (List ℕ)) (mid_shape : Shape) (mid_from base : ℕ) (shape_is : mid_shape ≡ h.shape) (from_is : mid_from ≡ h.from) (bodies_are : mid_bodies ≡ bodies) (base_is : base ≡ point.base) where
-  pub refused_again : (e : AuditError) → RefusesEntry e (entries_past mid_shape base (drop (base - mid_from) mid_bodies)) → RefusesEntry e (entries_past h.shape point.base (drop (point.base - h.from) bodies))
+  pub refused_again : (e : EntriesError) → RefusesEntry e (entries_past mid_shape base (drop (base - mid_from) mid_bodies)) → RefusesEntry e (entries_past h.shape point.base (drop (point.base - h.from) bodies))
   refused_again e refuses = subst (RefusesEntry e) (λ i. entries_past (shape_is i) (base_is i) (drop (base_is i - from_is i) (bodies_are i))) refuses
 
   pub found_again : (tells : Bool) (rest : List EntryKind) → AreFoundIn tells (record { shape = mid_shape; from = base }) (drop (base - mid_from) mid_bodies) rest → AreFoundIn tells (header_past h point) (drop (point.base - h.from) bodies) rest
   found_again tells rest found = subst (λ (x : Header × List (List ℕ)). AreFoundIn tells x.0 x.1 rest) (λ i. (record { shape = shape_is i; from = base_is i }, drop (base_is i - from_is i) (bodies_are i))) found
 
 module _ {D : Type 0} (content : D → Content) (moment : D → ℕ) (left_since : D → ℕ → List ℕ → Type 0) (faults_of : D → ℕ) (has_room : D → ℕ → ℕ → Type 0) where
-  pub seen_twice : {T U : Type 0} (old mid new : LogView D) (r : Result T AuditError) (r_now : Result U AuditError) → OnlyLooks content moment left_since faults_of has_room old.disk mid.disk r → OnlyLooks content moment left_since faults_of has_room mid.disk new.disk r_now
+  pub seen_twice : {T U : Type 0} (old mid new : LogView D) (r : Result T EntriesError) (r_now : Result U EntriesError) → OnlyLooks content moment left_since faults_of has_room old.disk mid.disk r → OnlyLooks content moment left_since faults_of has_room mid.disk new.disk r_now
       → (mid.shape ≡ old.shape) × (mid.stopped ≡ old.stopped) × (mid.batch ≡ old.batch) × (mid.spare ≡ old.spare) × (mid.from ≡ old.from)
       → (new.shape ≡ mid.shape) × (new.stopped ≡ mid.stopped) × (new.batch ≡ mid.batch) × (new.spare ≡ mid.spare) × (new.from ≡ mid.from)
       → mid.bodies ≡ old.bodies → new.bodies ≡ mid.bodies → IsOnlySeen content moment left_since faults_of old new

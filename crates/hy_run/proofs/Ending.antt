@@ -11,19 +11,21 @@ use Rattle.hy_run.specs.Compacting.{LeavesSpareBy}
 use Rattle.hy_run.specs.Fates.{Fate, Fits, WasOpened, LeavesPoint, grown, opened, uncalled, unopened}
 use Rattle.hy_run.specs.Handovers.{IsCause, IsDone, IsReadFault}
 use Rattle.hy_run.specs.Inspection.{IsUntold}
-use Rattle.hy_run.specs.Jobs.{LeavesUnborn, loads, meaning, no_point, runs, simulates, tells_of_log}
+use Rattle.hy_run.specs.Jobs.{LeavesUnborn, follows, loads, meaning, no_point, runs, simulates, tells_of_log}
 use Rattle.hy_run.specs.Loading.{IsLoadText}
 use Rattle.hy_run.specs.Looking.{FitsLook, IsInspection}
 use Rattle.hy_run.specs.Output.{IsOutput, IsRefused}
 use Rattle.hy_run.specs.Over.{IsOnlyRead, Over}
 use Rattle.hy_run.specs.Running.{IsScriptRefused}
 use Rattle.hy_run.specs.RunningParts.{IsReadingFault}
+use Rattle.hy_run.specs.StreamParts.{IsStreamFault}
+use Rattle.hy_run.specs.Streams.{IsFollowed, IsStreamRefused}
 use Rattle.hy_run.specs.declared.inspect.Report.{Report}
 use Rattle.hy_run.specs.declared.status.RunOptions.{RunOptions}
 use Rattle.hy_run.specs.declared.status.Status.{Status}
 use Rattle.hy_run.specs.declared.status.Status.TheVariants as status
 use Rattle.hy_run.specs.declared.status.Which.TheVariants as which
-use Rattle.hy_run.proofs.ByKind.{by_fault, fault_by}
+use Rattle.hy_run.proofs.ByKind.{by_fault, by_fault_of, fault_by}
 
 -- an answer of a call that left the spare device alone
 spare_alone : (spare : Over) (s : Status) → spare.uncalled → LeavesSpareBy s spare
@@ -43,6 +45,7 @@ spare_alone spare (status.Behind base from) same = same
 spare_alone spare status.Memory same = tt
 spare_alone spare (status.NothingToCut from base) same = same
 spare_alone spare status.SpareInUse same = tt
+spare_alone spare (status.Frame place why) same = same
 
 pub spare_apart : {V : Type 0} (spare : Over) (text : Result V Status) → spare.uncalled → IfErr text (λ s. LeavesSpareBy s spare)
 spare_apart spare (Ok v) same = tt
@@ -100,6 +103,23 @@ module _ {V : Type 0} (items : V → Text) (told : Option Text) (faults faults_n
     comes_before_spare = spare_apart spare text spare_same;
   }
 
+  pub followed_done : (text : Result V Status) → IfOk text (λ v. IsFollowed told (items v)) → IfErr text (IsStreamFault told faults faults_now) → log.uncalled → points.uncalled → spare.uncalled → IsDone items (meaning follows) told faults faults_now log points spare text 0
+  followed_done text output refused log_same points_same spare_same = record {
+    fate = uncalled;
+    start = None;
+    is = output;
+    cause = IfErr-weaker text _ _ (λ s is. by_fault_of (λ n why. ⊥) (IsStreamRefused told) (λ x. ⊥) (Rose faults faults_now) (λ one. ⊥) (IsCause (meaning follows) told faults faults_now log points spare)
+        (λ n why never. absurd never) (λ bad refused. refused) (λ x kind never. absurd never) (λ rose. (refl, rose)) (λ one never. absurd never) tt s is) refused;
+    comes_first = IfErr-weaker text _ _ (λ s is. by_fault_of (λ n why. ⊥) (IsStreamRefused told) (λ x. ⊥) (Rose faults faults_now) (λ one. ⊥) (λ x. Fits no_point false x points uncalled) (λ n why never. absurd never) (λ bad refused. refl) (λ x kind never. absurd never) (λ rose. refl) (λ one never. absurd never) tt s is) refused;
+    may_leave = refl;
+    log_left = log_same;
+    acked_is = refl;
+    point_left = points_same;
+    unused = λ start save. points_same;
+    spare_left = spare_same;
+    comes_before_spare = spare_apart spare text spare_same;
+  }
+
   -- ---- a look at the log
 
   fails_at : (fate : Fate) → points.uncalled → (fate ≡ unopened) ⊎ WasOpened fate → Fits no_point false (status.Device which.Log) points fate
@@ -127,6 +147,7 @@ module _ {V : Type 0} (items : V → Text) (told : Option Text) (faults faults_n
   look_fits fate (status.Behind base from) same is = is
   look_fits fate (status.NothingToCut from base) same is = absurd is
   look_fits fate status.SpareInUse same is = absurd is
+  look_fits fate (status.Frame place why) same is = absurd is
   look_fits fate status.Memory same is = tt
 
   point_alone : (fate : Fate) → points.uncalled → IsOnlyRead points → LeavesUnborn log fate → LeavesPoint no_point points fate None

@@ -18,7 +18,7 @@ use Rattle.hy_disk.proofs.Images.{image_settled}
 use Rattle.hy_disk.proofs.Moments.{joined, quiet_then, weaker}
 use Rattle.hy_formats.specs.declared.refusal.RestartError.{RestartError}
 use Rattle.hy_formats.specs.declared.refusal.RestartError.TheVariants as restarting
-use Rattle.hy_check.specs.Auditing.{AreFoundIn}
+use Rattle.hy_entries.specs.LogEntries.{AreFoundIn}
 use Rattle.hy_restart.specs.Restart.{IsOfLog, IsOfPoint, IsRestarted, RefusesRestart, entries_for}
 use Rattle.hy_restart.proofs.Saves.{left_same}
 use Rattle.hy_run.specs.Fates.{DeviceFails, Fits, Growth, opened}
@@ -93,6 +93,7 @@ module _ {D : Type 0} (tells : Bool) (content : D → Content) (moment : D → �
   first_then g (status.Behind base from) is = is
   first_then g (status.NothingToCut from base) is = is
   first_then g status.SpareInUse is = is
+  first_then g (status.Frame place why) is = is
 
   saving_then : (g : Growth) (start : Option Checkpoint) → IsSavingPart g start point_then point_leaves_then → IsSavingPart g start point point_leaves
   saving_then g start is = record {

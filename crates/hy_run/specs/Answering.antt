@@ -4,6 +4,7 @@ use Rattle.std.specs.Io.KnownBytes.{Appends, Keeps}
 use Rattle.hy_base.specs.Faults.{Rose}
 use Rattle.hy_base.specs.Spelling.{Text}
 use Rattle.hy_formats.specs.Checkpoint.{Checkpoint}
+use Rattle.hy_formats.specs.declared.damage.BadFrame.{BadFrame}
 use Rattle.hy_cli.specs.CommandLine.{line_of, names_command}
 use Rattle.hy_cli.specs.Matches.{Asks, refuses}
 use Rattle.hy_cli.specs.declared.line.Line.{Line}
@@ -60,6 +61,7 @@ pub record IsObeyed (m : JobMeaning) (before after : Ends) (log points spare : O
   pub right : by_kind
       ((text : Text) × m.text before.left log points spare fate start text × Appends before.taken after.taken text)
       (m.script_refused before.left)
+      (m.stream_refused before.left)
       (m.log_refused before.left log points spare answer)
       (SourceFails m.reads before.source_faults after.source_faults)
       ((text : Text) × m.text before.left log points spare fate start text × WritesPartOf before.taken after.taken text × Rose before.sink_faults after.sink_faults)
@@ -70,6 +72,7 @@ pub record IsObeyed (m : JobMeaning) (before after : Ends) (log points spare : O
   pub fine_always : m.can before.left log points spare
       → (answer ≡ status.Fine) ⊎ ((answer ≡ status.Memory) ⊎ (SourceFails m.reads before.source_faults after.source_faults ⊎ (SomeDeviceFails m log points spare ⊎ Rose before.sink_faults after.sink_faults)))
   pub script_always : IfSome before.left (λ bytes. (n : ℕ) (why : Why) → m.refuses_script bytes n why → (answer ≡ status.Script n why) ⊎ ((answer ≡ status.Memory) ⊎ SourceFails m.reads before.source_faults after.source_faults))
+  pub stream_always : IfSome before.left (λ bytes. (bad : BadFrame) → m.refuses_stream bytes bad → (answer ≡ status.Frame bad.place bad.why) ⊎ ((answer ≡ status.Memory) ⊎ SourceFails m.reads before.source_faults after.source_faults))
   pub log_always : IsTrue log.tells → (why : Status) → m.refuses_log before.left log points spare why
       → (answer ≡ why) ⊎ ((answer ≡ status.Memory) ⊎ (SourceFails m.reads before.source_faults after.source_faults ⊎ SomeDeviceFails m log points spare))
   -- What is left.

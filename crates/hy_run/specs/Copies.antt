@@ -18,7 +18,7 @@ use Rattle.hy_formats.specs.Restarting.{point_for}
 use Rattle.hy_formats.specs.Texts.{compact_text}
 use Rattle.hy_rules.specs.CutLogs.{AreLawfulPast}
 use Rattle.hy_rules.specs.Recovery.{decoded_log}
-use Rattle.hy_check.specs.Auditing.{AreFoundIn}
+use Rattle.hy_entries.specs.LogEntries.{AreFoundIn}
 use Rattle.hy_compact.specs.declared.error.CopyError.{CopyError}
 use Rattle.hy_compact.specs.declared.error.CopyError.TheVariants as copying
 use Rattle.hy_compact.specs.Compaction.{IsPartlyCopied}

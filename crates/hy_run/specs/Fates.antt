@@ -162,10 +162,11 @@ PointFailsAt options (opened header bodies) = options.from_point ≡ true
 PointFailsAt options (grown g) = (options.save ≡ true) × (is_finished g.script g.end ≡ true) × (g.batch ≡ [])
 PointFailsAt options _ = ⊥
 
--- An answer without a text tells how far the call came, by its options and whether it makes a copy: the words, the source and the script come before the log, its pages and its shape before its entries, these before the point, which is looked at where it was asked for, and the point before the run. Memory may run out at any place.
+-- An answer without a text tells how far the call came, by its options and whether it makes a copy: the words, the source and the script or the stream come before the log, its pages and its shape before its entries, these before the point, which is looked at where it was asked for, and the point before the run. Memory may run out at any place.
 abbrev pub Fits : RunOptions → Bool → Status → Over → Fate → Type 0
 Fits options copies status.Usage points fate = fate ≡ uncalled
 Fits options copies (status.Script line why) points fate = fate ≡ uncalled
+Fits options copies (status.Frame place why) points fate = fate ≡ uncalled
 Fits options copies status.Source points fate = fate ≡ uncalled
 Fits options copies (status.Log (Page page) why) points fate = fate ≡ unopened
 Fits options copies (status.Config field log asked) points fate = fate ≡ unopened

@@ -6,8 +6,8 @@ use Rattle.hy_formats.specs.declared.damage.LogFault.{LogFault}
 use Rattle.hy_rules.specs.Recovery.{Recovered, recovered}
 use Rattle.hy_disk.specs.Content.{Content, Image}
 use Rattle.hy_disk.specs.Moments.{LeavesOnly}
-use Rattle.hy_check.specs.declared.auditing.AuditError.{AuditError}
-use Rattle.hy_check.specs.declared.auditing.AuditError.TheVariants as auditing
+use Rattle.hy_entries.specs.declared.reading.EntriesError.{EntriesError}
+use Rattle.hy_entries.specs.declared.reading.EntriesError.TheVariants as entries_error
 use Rattle.hy_formats.specs.declared.refusal.OpenError.{OpenError}
 use Rattle.hy_formats.specs.declared.refusal.OpenError.TheVariants as opening
 use Rattle.hy_log.specs.View.{LogView}
@@ -26,10 +26,10 @@ use Rattle.hy_run.specs.declared.status.Which.TheVariants as which
 abbrev pub IsLogFault : Report → Bool → Result Recovered LogFault → ℕ → ℕ → Status → Type 0
 IsLogFault report tells expected faults faults_now status = IsFault (λ line why. ⊥) (IsUntold report tells expected) ⊥ (λ device. (device ≡ which.Log) × Rose faults faults_now) status
 
-abbrev pub audit_fault : AuditError → Status
-audit_fault auditing.Memory = status.Memory
-audit_fault auditing.Device = status.Device which.Log
-audit_fault (auditing.BadEntry pos bad) = status.Log (Entry pos) bad.why
+abbrev pub entries_fault : EntriesError → Status
+entries_fault entries_error.Memory = status.Memory
+entries_fault entries_error.Device = status.Device which.Log
+entries_fault (entries_error.BadEntry pos bad) = status.Log (Entry pos) bad.why
 
 -- why a log was not opened, where no shape was asked for
 abbrev pub open_fault : OpenError → Option Status

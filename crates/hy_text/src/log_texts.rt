@@ -5,7 +5,7 @@ ghost use Rattle.std.specs.Prelude.{◌≡◌, ◌∷◌, ◌+◌, ◌-◌, ◌+
 ghost use Rattle.std.specs.List.{enumerate_from};
 ghost use Rattle.hy_base.specs.Spelling.{line};
 ghost use Rattle.hy_formats.specs.EntryFormat.{isolation_code};
-ghost use Rattle.hy_formats.specs.Texts.{ahead_fault_text, behind_fault_text, check_text, compact_fault_text, compact_text, config_fault_text, device_fault_text, dump_text, entry_fault_text, entry_text, from_words, isolation_words, judged_text, page_fault_text, point_fault_text, row_text, shape_words, spare_fault_text, version_words, waiting_text};
+ghost use Rattle.hy_formats.specs.Texts.{ahead_fault_text, behind_fault_text, check_text, compact_fault_text, compact_text, config_fault_text, device_fault_text, dump_text, entry_fault_text, entry_text, frame_fault_text, from_words, isolation_words, judged_text, page_fault_text, point_fault_text, row_text, shape_words, spare_fault_text, version_words, waiting_text};
 ghost use Rattle.hy_text.specs.LineWords.{spaced};
 
 use crate::texts::{Word, put_line, put_rows, put_verdict, put_words};
@@ -350,6 +350,16 @@ pub fn compact_fault_line(alloc: Global, from: Pos, base: Pos) -> Result<Vec<u8>
         Word::Number(base as u64),
     ];
     put_line(&mut out, b"hyder: compact from", &words)?;
+    Ok(out)
+}
+
+/// The line for a stream that is refused: the place of its first field that is, and why.
+pub fn frame_line(alloc: Global, place: u64, why: &str) -> Result<Vec<u8>, AllocError>
+    ensures { IfOk result (λ text. text.items ≡ frame_fault_text place why.now) }
+{
+    let mut out = Vec::new(alloc);
+    let words = [Word::Number(place), Word::Plain(why.as_bytes())];
+    put_line(&mut out, b"hyder: frame at", &words)?;
     Ok(out)
 }
 

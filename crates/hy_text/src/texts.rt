@@ -294,7 +294,7 @@ pub fn write_report(alloc: Global, results: &Results) -> Result<Vec<u8>, AllocEr
 pub fn usage_line() -> &'static [u8]
     ensures { result.now ≡ usage_text }
 {
-    b"hyder: usage: run|sim|recover|check|load|compact\n"
+    b"hyder: usage: run|sim|recover|check|load|compact|ship|follow\n"
 }
 
 /// The line for a source that failed.

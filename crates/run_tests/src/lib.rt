@@ -1,5 +1,5 @@
 //! Tests of what a run is made of, and of whole calls: trees, melds and rollers; simulated runs; the list that threads
-//! share, and hubs; and `hyder_call` over sources, sinks and devices in memory, with what a failure of each of their calls leaves.
+//! share, and hubs; a stream in pieces; and `hyder_call` over sources, sinks and devices in memory, with what a failure of each of their calls leaves.
 //! Texts, statuses and files are tried on the program itself, by `tests/rows`. It promises nothing to a crate above.
 #![tactic(auto)]
 
@@ -35,5 +35,7 @@ mod slow;
 mod slow_disk;
 #[cfg(test)]
 mod stopped_log;
+#[cfg(test)]
+mod streams;
 #[cfg(test)]
 mod tree;

@@ -11,8 +11,8 @@ returns c =
     let from = c.args.from in
     let entries : List EntryKind = c.args.entries.now in
     let past = c.args.first - from in
-    let front : List EntryKind = take (c.whole_of-whole.result - from) entries in
-    let whole : c.whole_of-whole.result ≡ whole_groups c.args.shape (from + length entries) = c.whole_of-whole.ensures in
+    let front : List EntryKind = take (c.whole_groups-whole.result - from) entries in
+    let whole : c.whole_groups-whole.result ≡ whole_groups c.args.shape (from + length entries) = c.whole_groups-whole.ensures in
     take_rest front past
     ∙ ap (λ n. drop past (take (n - from) entries)) whole
     ∙ filled_rest from c.args.first (whole_groups c.args.shape (from + length entries)) entries c.requires.near c.requires.within

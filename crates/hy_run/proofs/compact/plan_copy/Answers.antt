@@ -3,7 +3,7 @@ use Rattle.hy_log.specs.View.{header_of}
 use Rattle.hy_run.specs.Copies.{IsPlanFault}
 use Rattle.hy_run.specs.Fates.{Fits, opened}
 use Rattle.hy_run.specs.Jobs.{only_point}
-use Rattle.hy_run.specs.Looking.{audit_fault}
+use Rattle.hy_run.specs.Looking.{entries_fault}
 use Rattle.hy_run.specs.Over.{over}
 use Rattle.hy_run.proofs.Compacting.{audit_first, base_fault_of, err_as, found_again, only_read, plan_of, refused_again, rest_plan_fault, rest_read, seen_twice}
 use Rattle.hy_run.proofs.compact.plan_copy.Goals as goal
@@ -38,7 +38,7 @@ returns-in_err-rest-clause-refused g c =
     let lf_now = disk.faults_of c.entries_past.new.log.disk in
     let pf = disk.faults_of c.args.points.now in
     let pf_now = disk.faults_of c.further_point.new.points in
-    err_as c.from_residual-in_err-rest.result (audit_fault e) (IsPlanFault disk.tells h log.bodies bytes lf lf_now pf pf_now) c.from_residual-in_err-rest.ensures.1
+    err_as c.from_residual-in_err-rest.result (entries_fault e) (IsPlanFault disk.tells h log.bodies bytes lf lf_now pf pf_now) c.from_residual-in_err-rest.ensures.1
     (rest_plan_fault c.bodies_are_read.ensures disk.tells h log.bodies bytes found.0 point plan lf (disk.faults_of mid.disk) lf_now pf pf_now e
     (λ told. refused_again h point log.bodies mid.bodies mid.shape mid.from c.base.result same.0 same.4 c.judge_entries.ensures.bodies c.base.ensures.base e (c.in_err-rest.ensures.refused told)) c.judge_entries.ensures.look.later (λ is. c.in_err-rest.ensures.look.device (ap Err is)))
 
@@ -48,7 +48,7 @@ returns-in_err-rest-clause-comes_first g c =
     let log = c.args.log.now in
     let points = over disk.tells disk.content disk.moment disk.left_since disk.faults_of c.args.points.now c.further_point.new.points in
     let e = c.in_err-rest.field-0.0 in
-    err_as c.from_residual-in_err-rest.result (audit_fault e) (λ status. Fits only_point true status points (opened (header_of log) log.bodies)) c.from_residual-in_err-rest.ensures.1
+    err_as c.from_residual-in_err-rest.result (entries_fault e) (λ status. Fits only_point true status points (opened (header_of log) log.bodies)) c.from_residual-in_err-rest.ensures.1
     (audit_first e points (header_of log) log.bodies (only_read disk.content disk.moment disk.left_since disk.faults_of disk.has_room disk.tells c.args.points.now c.further_point.new.points c.further_point.ensures.look))
 
 pub returns-in_err-rest-clause-seen : goal.returns-in_err-rest-clause-seen
