@@ -43,6 +43,7 @@ module _ (w : Setting) (before : List EntryKind) where
       λ i. record {
         log = log i;
         boards = replicate w.servers (whole_groups w.shape (size i));
+        earlier = replicate w.servers [];
         sessions = (opening w found).sessions;
         armed = None;
       }
@@ -79,24 +80,24 @@ module _ (w : Setting) (before : List EntryKind) where
     blind_added (Stop call pattern) added may = may
 
   -- a stop that strikes restarts the servers on the log's length
-  stopped_by : (armed : Option ArmedStop) (log : List EntryKind) (boards : List ℕ) (sessions : List Session) → length before ≤ length log
-      → swapped before (stopped_if_armed w (record { log = log; boards = boards; sessions = sessions; armed = armed })) ≡ stopped_if_armed w (record { log = starting_with before log; boards = boards; sessions = sessions; armed = armed })
-  stopped_by None log boards sessions within = refl
-  stopped_by (Some stop) log boards sessions within =
-      λ i. record { log = starting_with before log; boards = map (λ board. whole_groups w.shape (sym (starting_length before log within) i)) boards; sessions = map abandoned sessions; armed = None }
+  stopped_by : (armed : Option ArmedStop) (log : List EntryKind) (boards : List ℕ) (earlier : List (List ℕ)) (sessions : List Session) → length before ≤ length log
+      → swapped before (stopped_if_armed w (record { log = log; boards = boards; earlier = earlier; sessions = sessions; armed = armed })) ≡ stopped_if_armed w (record { log = starting_with before log; boards = boards; earlier = earlier; sessions = sessions; armed = armed })
+  stopped_by None log boards earlier sessions within = refl
+  stopped_by (Some stop) log boards earlier sessions within =
+      λ i. record { log = starting_with before log; boards = map (λ board. whole_groups w.shape (sym (starting_length before log within) i)) boards; earlier = map (λ older. []) earlier; sessions = map abandoned sessions; armed = None }
 
   pub blind_after : (s : State) (event : Event) (added : List EntryKind) → length before ≤ length s.log → swapped before (after w s event added) ≡ after w (swapped before s) event added
   blind_after s (Begin client) added within = refl
   blind_after s (Append client) added within =
       let long : length before ≤ length (s.log ++ added) = omega (arith, length-append s.log added, within) in
-      stopped_by s.armed (s.log ++ added) s.boards (change_nth (appended added (length s.log)) s.sessions client) long
-      ∙ (λ i. stopped_if_armed w (record { log = starting_more before s.log added within i; boards = s.boards; sessions = change_nth (appended added (sym (same s within) i)) s.sessions client; armed = s.armed }))
+      stopped_by s.armed (s.log ++ added) s.boards s.earlier (change_nth (appended added (length s.log)) s.sessions client) long
+      ∙ (λ i. stopped_if_armed w (record { log = starting_more before s.log added within i; boards = s.boards; earlier = s.earlier; sessions = change_nth (appended added (sym (same s within) i)) s.sessions client; armed = s.armed }))
   blind_after s (End client) added within = refl
   blind_after s (Refuse client) added within = refl
   blind_after s (Pad server) added within =
       let long : length before ≤ length (s.log ++ added) = omega (arith, length-append s.log added, within) in
-      stopped_by s.armed (s.log ++ added) s.boards s.sessions long
-      ∙ (λ i. stopped_if_armed w (record { log = starting_more before s.log added within i; boards = s.boards; sessions = s.sessions; armed = s.armed }))
+      stopped_by s.armed (s.log ++ added) s.boards s.earlier s.sessions long
+      ∙ (λ i. stopped_if_armed w (record { log = starting_more before s.log added within i; boards = s.boards; earlier = s.earlier; sessions = s.sessions; armed = s.armed }))
   blind_after s (Publish server upto) added within = refl
   blind_after s (Stop call pattern) added within = refl
 
