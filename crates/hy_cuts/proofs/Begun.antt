@@ -1,11 +1,11 @@
 -- In a run that found the log as far as the end of a group, each program is begun at or past it.
 use Rattle.std.proofs.Common.{◌≡◌, ◌∙◌, ℕ, zero, suc, ◌+◌, ◌%◌, ◌<◌, ◌≤◌, Bool, true, false, cond, List, [], ◌∷◌, ◌++◌, length, map, refl, sym, ap, subst, arith, length-append}
 use mathlib.Core.Bool.{true≢false}
-use Rattle.std.proofs.lemmas.Bool.{and_parts, leb-true, ltb-true}
+use Rattle.std.proofs.lemmas.Bool.{and_parts, leb-true, ltb-true, ltb-false}
 use Rattle.std.proofs.lemmas.List.{length-map, length-replicate}
-use Rattle.std.specs.Prelude.{Option, Some, None, ⊤, is_some, option_map, option_to_list, find, replicate, unwrap_or, nat_lt, nat_le, not, ◌&&◌, ◌==◌, if◌then◌else◌}
+use Rattle.std.specs.Prelude.{◌-◌, Option, Some, None, ⊤, is_some, option_map, option_to_list, find, replicate, take, unwrap_or, nat_lt, nat_le, not, ◌&&◌, ◌==◌, if◌then◌else◌}
 use Rattle.std.specs.Option.{option_map_or}
-use Rattle.std.specs.List.{AllByRecursion, cons_option, enumerate_from, filter_map}
+use Rattle.std.specs.List.{AllByRecursion, cons_option, enumerate_from, filter_map, last_or}
 use Rattle.hy_base.specs.declared.record.EntryKind.{EntryKind}
 use Rattle.hy_base.specs.declared.workload.ArmedStop.{ArmedStop}
 use Rattle.hy_base.specs.declared.workload.Client.{Client}
@@ -21,8 +21,8 @@ use Rattle.hy_base.specs.Shape.{IsWithin, is_within, whole_groups}
 use Rattle.hy_base.proofs.GroupLemmas.{whole_below}
 use Rattle.hy_base.proofs.ListLemmas.{all_append}
 use Rattle.hy_base.proofs.NthLemmas.{All-nth, all_nth, length_change, nth_in_map, nth_some}
-use Rattle.hy_rules.specs.Moves.{Setting, State, fresh_session, is_begun, is_declared, is_kept, ends_whole_group, enabled, client_passes, may_begin, at_next_program, begun_at, appended, abandoned, restarted, board_of, home_server, opening, after}
-use Rattle.hy_rules.specs.Runs.{setting_of, opening_of, added, begun_snap, run, snap_of, suits, Ending, ByReading, ByEntryAt, ByFull, ByStop, Ended, ended, ended_by, ended_by_append, ended_in, lost_by_stop}
+use Rattle.hy_rules.specs.Moves.{Setting, State, fresh_session, is_begun, is_declared, is_kept, ends_whole_group, enabled, client_passes, may_begin, Start, On, Past, NotYet, start_at, start_of, asked_position, started, at_next_program, appended, abandoned, restarted, board_of, earlier_of, least_kept, home_server, keeping, opening, after}
+use Rattle.hy_rules.specs.Runs.{setting_of, opening_of, added, begun_snap, run, snap_of, suits, Ending, ByReading, ByEntryAt, ByFull, ByStop, ByPast, ByNotYet, Ended, ended, ended_by, ended_by_append, ended_by_start, ended_in, lost_by_stop}
 use Rattle.hy_rules.specs.Serial.{is_entry_at}
 use Rattle.hy_rules.proofs.Backward.{run_back, run_keeps}
 
@@ -35,6 +35,7 @@ record ArePast (base : ℕ) (w : Setting) (s : State) : Type 0 where
   pub longer : base ≤ length s.log
   pub count : length s.boards ≡ w.servers
   pub boards : AllByRecursion (λ board. base ≤ board) s.boards
+  pub earlier : AllByRecursion (λ older. AllByRecursion (λ board. base ≤ board) older) s.earlier
   pub sessions : AllByRecursion (λ x. PhasePast base x.phase) s.sessions
 
 -- what stays the same for the run: the base is the end of a group, and each client belongs to a server
@@ -63,6 +64,23 @@ replicated : {X : Type 0} (P : X → Type 0) (x : X) (n : ℕ) → P x → AllBy
 replicated P x zero h = tt
 replicated P x (suc n) h = (h, replicated P x n h)
 
+all_taken : {X : Type 0} (P : X → Type 0) (n : ℕ) (xs : List X) → AllByRecursion P xs → AllByRecursion P (take n xs)
+all_taken P zero xs a = tt
+all_taken P (suc n) [] a = tt
+all_taken P (suc n) (x ∷ xs) a = (a.0, all_taken P n xs a.1)
+
+-- a change that keeps a property keeps it in a list
+all_kept : {X : Type 0} (P : X → Type 0) (f : X → X) → ((x : X) → P x → P (f x)) → (xs : List X) (n : ℕ) → AllByRecursion P xs → AllByRecursion P (change_nth f xs n)
+all_kept P f h [] n a = tt
+all_kept P f h (x ∷ xs) zero a = a
+all_kept P f h (x ∷ xs) (suc zero) a = (h x a.0, a.1)
+all_kept P f h (x ∷ xs) (suc (suc n)) a = (a.0, all_kept P f h xs (suc n) a.1)
+
+-- the last of a list, or a value beside it
+last_past : (base d : ℕ) (o : Option ℕ) (xs : List ℕ) → base ≤ unwrap_or o d → AllByRecursion (λ board. base ≤ board) xs → base ≤ unwrap_or (last_or o xs) d
+last_past base d o [] own a = own
+last_past base d o (x ∷ xs) own a = last_past base d (Some x) xs a.0 a.1
+
 -- ---- a state
 
 within_test : (low high n : ℕ) → is_within low high n ≡ true → IsWithin low high n
@@ -74,6 +92,24 @@ board_past base w s server h within =
     let past : base ≤ there.0 = all_nth (λ board. base ≤ board) s.boards server there.0 h.boards there.1 in
     let same : board_of s server ≡ there.0 = ap (λ (o : Option ℕ). unwrap_or o 0) there.1 in
     omega (arith, past, same)
+
+earlier_case : (base : ℕ) (o : Option (List ℕ)) (xss : List (List ℕ)) (server : ℕ) → nth xss server ≡ o → AllByRecursion (λ older. AllByRecursion (λ board. base ≤ board) older) xss → AllByRecursion (λ board. base ≤ board) (unwrap_or o [])
+earlier_case base None xss server at h = tt
+earlier_case base (Some older) xss server at h = all_nth (λ (xs : List ℕ). AllByRecursion (λ board. base ≤ board) xs) xss server older h at
+
+least_past : (base : ℕ) (w : Setting) (s : State) (server : ℕ) → ArePast base w s → IsWithin 1 w.servers server → base ≤ least_kept s server
+least_past base w s server h within =
+    last_past base (board_of s server) None (earlier_of s server) (board_past base w s server h within) (earlier_case base (nth s.earlier server) s.earlier server refl h.earlier)
+
+-- a program begins on a board or between those that are kept
+start_past : (base least board : ℕ) (asked : Option ℕ) (x : Session) → base ≤ least → base ≤ board → PhasePast base (started (start_at least board asked) x).phase
+start_past base least board None x low high = high
+start_past base least board (Some pos) x low high = by (nat_lt pos least) (nat_lt board pos) refl
+  where
+    by : (a b : Bool) → nat_lt pos least ≡ a → PhasePast base (started (if a then Past least else if b then NotYet board else On pos) x).phase
+    by true b e = tt
+    by false true e = tt
+    by false false e = let above : least ≤ pos = ltb-false pos least e in omega (arith, above, low)
 
 -- the server of a client that passes a test
 home_case : (servers : ℕ) (o : Option Home) (test : Home → Bool) → option_map_or test o false ≡ true → ((home : Home) → o ≡ Some home → IsWithin 1 servers home.server) → IsWithin 1 servers (option_map_or (λ home. home.server) o 0)
@@ -99,18 +135,21 @@ past_stop base w s (Some stop) is h = record {
   longer = h.longer;
   count = length-map s.boards (λ board. whole_groups w.shape (length s.log)) ∙ h.count;
   boards = any_mapped (λ board. base ≤ board) (λ board. whole_groups w.shape (length s.log)) (λ board. whole_below w.shape.group base (length s.log) is.group is.whole h.longer) s.boards;
+  earlier = any_mapped (λ (older : List ℕ). AllByRecursion (λ board. base ≤ board) older) (λ older. []) (λ older. tt) s.earlier;
   sessions = all_mapped (λ x. PhasePast base x.phase) (λ x. PhasePast base x.phase) abandoned (λ x p. abandoned_phase base x (is_begun x.phase) p) s.sessions h.sessions;
 }
 
 past_longer : (base : ℕ) (w : Setting) (s : State) (more : List EntryKind) → ArePast base w s → ArePast base w (record s { log = s.log ++ more })
-past_longer base w s more h = record { longer = omega (arith, h.longer, length-append s.log more); count = h.count; boards = h.boards; sessions = h.sessions }
+past_longer base w s more h = record { longer = omega (arith, h.longer, length-append s.log more); count = h.count; boards = h.boards; earlier = h.earlier; sessions = h.sessions }
 
 past_sessions : (base : ℕ) (w : Setting) (s : State) (f : Session → Session) (client : ℕ) → ((x : Session) → PhasePast base (f x).phase) → ArePast base w s → ArePast base w (record s { sessions = change_nth f s.sessions client })
-past_sessions base w s f client k h = record { longer = h.longer; count = h.count; boards = h.boards; sessions = all_changed (λ x. PhasePast base x.phase) f k s.sessions client h.sessions }
+past_sessions base w s f client k h = record { longer = h.longer; count = h.count; boards = h.boards; earlier = h.earlier; sessions = all_changed (λ x. PhasePast base x.phase) f k s.sessions client h.sessions }
 
 past_after : (base : ℕ) (w : Setting) (s : State) (event : Event) (more : List EntryKind) → IsBase base w → enabled w s event ≡ true → ArePast base w s → ArePast base w (after w s event more)
 past_after base w s (Begin client) more is e h =
-    past_sessions base w s (begun_at (board_of s (home_server w client))) client (λ x. board_past base w s (home_server w client) h (home_within base w s client (may_begin s) is e)) h
+    let home : IsWithin 1 w.servers (home_server w client) = home_within base w s client (may_begin s) is e in
+    past_sessions base w s (started (start_of w s client)) client
+    (λ x. start_past base (least_kept s (home_server w client)) (board_of s (home_server w client)) (asked_position w s client) x (least_past base w s (home_server w client) h home) (board_past base w s (home_server w client) h home)) h
 past_after base w s (Append client) more is e h =
     past_stop base w _ s.armed is (past_sessions base w (record s { log = s.log ++ more }) (appended more (length s.log)) client (λ x. appended_phase base (length s.log) more x) (past_longer base w s more h))
 past_after base w s (End client) more is e h = past_sessions base w s at_next_program client (λ x. tt) h
@@ -125,15 +164,17 @@ past_after base w s (Publish server upto) more is e h =
       longer = h.longer;
       count = length_change (λ board. upto) s.boards server ∙ h.count;
       boards = all_changed (λ board. base ≤ board) (λ board. upto) (λ board. omega (arith, old, further)) s.boards server h.boards;
+      earlier = all_kept (λ (older : List ℕ). AllByRecursion (λ board. base ≤ board) older) (keeping w.keeps (board_of s server)) (λ older all. all_taken (λ board. base ≤ board) (w.keeps - 1) (board_of s server ∷ older) (old, all)) s.earlier server h.earlier;
       sessions = h.sessions;
     }
-past_after base w s (Stop call pattern) more is e h = record { longer = h.longer; count = h.count; boards = h.boards; sessions = h.sessions }
+past_after base w s (Stop call pattern) more is e h = record { longer = h.longer; count = h.count; boards = h.boards; earlier = h.earlier; sessions = h.sessions }
 
 past_opening : (base : ℕ) (w : Setting) (log : List EntryKind) → IsBase base w → base ≤ length log → ArePast base w (opening w log)
 past_opening base w log is within = record {
   longer = within;
   count = length-replicate w.servers (whole_groups w.shape (length log));
   boards = replicated (λ board. base ≤ board) (whole_groups w.shape (length log)) w.servers (whole_below w.shape.group base (length log) is.group is.whole within);
+  earlier = replicated (λ (older : List ℕ). AllByRecursion (λ board. base ≤ board) older) [] w.servers tt;
   sessions = any_mapped (λ x. PhasePast base x.phase) (λ home. fresh_session) (λ home. tt) w.homes;
 }
 
@@ -145,6 +186,8 @@ EndingPast base snap ByReading = ⊤
 EndingPast base snap (ByEntryAt pos) = base ≤ snap
 EndingPast base snap ByFull = ⊤
 EndingPast base snap ByStop = ⊤
+EndingPast base snap (ByPast from) = ⊤
+EndingPast base snap (ByNotYet board) = ⊤
 
 abbrev EndPast : ℕ → List Ended → Type 0
 EndPast base done = AllByRecursion (λ e. EndingPast base e.snap e.ending) done
@@ -197,8 +240,13 @@ pad_past : (base : ℕ) (s : State) (o : Option ArmedStop) → EndPast base (if 
 pad_past base s None = tt
 pad_past base s (Some stop) = lost_past base s 0
 
-step_past : (base : ℕ) (w : Setting) (s : State) (event : Event) → enabled w s event ≡ true → ArePast base w s → EndPast base (ended_by s event)
-step_past base w s (Begin client) e h = tt
+start_ended : (base : ℕ) (s : State) (client : ℕ) (start : Start) → EndPast base (ended_by_start start s client)
+start_ended base s client (On snap) = tt
+start_ended base s client (Past from) = ended_past base s client (ByPast from) tt
+start_ended base s client (NotYet board) = ended_past base s client (ByNotYet board) tt
+
+step_past : (base : ℕ) (w : Setting) (s : State) (event : Event) → enabled w s event ≡ true → ArePast base w s → EndPast base (ended_by w s event)
+step_past base w s (Begin client) e h = start_ended base s client (start_of w s client)
 step_past base w s (Append client) e h =
     append_past base s client s.armed (passing_case base s client (nth w.homes client) (and_parts (client_passes w s client (λ home session. is_begun session.phase)) _ e).0 h.sessions)
 step_past base w s (End client) e h = ended_past base s client ByReading tt
@@ -212,7 +260,7 @@ run_past base script s t events is h =
     run_back script t (λ u done. ArePast base (setting_of script) u → EndPast base done) (λ past. tt)
     (λ u event done may rest past.
     let parts = and_parts (enabled (setting_of script) u event) (suits script u event) may in
-    all_append (λ e. EndingPast base e.snap e.ending) (ended_by u event) done (step_past base (setting_of script) u event parts.0 past)
+    all_append (λ e. EndingPast base e.snap e.ending) (ended_by (setting_of script) u event) done (step_past base (setting_of script) u event parts.0 past)
     (rest (past_after base (setting_of script) u event (added script u event) is parts.0 past))) s events h
 
 -- ---- of a script
@@ -238,6 +286,8 @@ found_case base pos d x xs true e h own rest = let same : x ≡ d = cc in subst 
     of_ending (ByEntryAt place) at past = past
     of_ending ByFull at past = absurd (true≢false (sym at))
     of_ending ByStop at past = absurd (true≢false (sym at))
+    of_ending (ByPast from) at past = absurd (true≢false (sym at))
+    of_ending (ByNotYet board) at past = absurd (true≢false (sym at))
 found_case base pos d x xs false e h own rest = rest h
 
 found_past : (base pos : ℕ) (d : Ended) (xs : List Ended) → EndPast base xs → find (λ e. is_entry_at pos e.ending) xs ≡ Some d → base ≤ d.snap
