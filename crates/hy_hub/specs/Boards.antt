@@ -26,7 +26,7 @@ boards_then boards (Stop call pattern) board = boards
 abbrev pub boards_from : List Roll → List Occurrence → List Roll
 boards_from boards [] = boards
 boards_from boards (Opened o ∷ occurrences) = boards_from boards occurrences
-boards_from boards (Happened event added ∷ occurrences) = boards_from (boards_then boards event added.board) occurrences
+boards_from boards (Happened event added ended ∷ occurrences) = boards_from (boards_then boards event added.board) occurrences
 boards_from boards (Halted at risen ∷ occurrences) = boards_from boards occurrences
 boards_from boards (Lifted batch ∷ occurrences) = boards_from boards occurrences
 boards_from boards (Landed ∷ occurrences) = boards_from boards occurrences
@@ -35,7 +35,7 @@ boards_from boards (Landed ∷ occurrences) = boards_from boards occurrences
 abbrev pub boards_in : List Occurrence → List Roll
 boards_in [] = []
 boards_in (Opened o ∷ occurrences) = boards_from (replicate o.servers o.start) occurrences
-boards_in (Happened event added ∷ occurrences) = []
+boards_in (Happened event added ended ∷ occurrences) = []
 boards_in (Halted at risen ∷ occurrences) = []
 boards_in (Lifted batch ∷ occurrences) = []
 boards_in (Landed ∷ occurrences) = []

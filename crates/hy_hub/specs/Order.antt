@@ -24,7 +24,7 @@ pub record IsOfBatch (before : List Occurrence) (event : Occurrence) (after : Li
 -- an event may add its entries to the log of this list
 abbrev pub MayBeNext : List Occurrence → Occurrence → Type 0
 MayBeNext list (Opened o) = ⊥
-MayBeNext list (Happened event added) = MayAdd (setting_in list) (state_after list) event added.entries
+MayBeNext list (Happened event added ended) = MayAdd (setting_in list) (state_after list) event added.entries
 MayBeNext list (Halted at risen) = ⊥
 MayBeNext list (Lifted batch) = ⊥
 MayBeNext list Landed = ⊥
@@ -37,7 +37,7 @@ StandsAsAdded (entry ∷ entries) before event after = IsOfBatch before event af
 -- An event that adds entries is one of the batch that was out. The device is lifted where it is home and the log runs, with a batch of which each event might be the next one; it fails, and lands, where it is out; and where it failed it lands at once.
 abbrev pub StandsInOrder : List Occurrence → Occurrence → List Occurrence → Type 0
 StandsInOrder before (Opened o) after = ⊤
-StandsInOrder before (Happened event added) after = StandsAsAdded added.entries before (Happened event added) after
+StandsInOrder before (Happened event added ended) after = StandsAsAdded added.entries before (Happened event added ended) after
 StandsInOrder before (Halted at risen) after = IsHalt before (Halted at risen ∷ []) × ((behind : List Occurrence) × (after ≡ Landed ∷ behind))
 StandsInOrder before (Lifted batch) after = (flight_of before ≡ None) × (halt_of before ≡ None) × AllByRecursion (MayBeNext before) (events_told batch)
 StandsInOrder before Landed after = is_out before ≡ true

@@ -41,7 +41,7 @@ WaitAfter client Waits before now = NobodyElseComes client before now
 -- an event is that of an entry of a client who waits
 abbrev pub IsWaitedFor : List ℕ → Occurrence → Type 0
 IsWaitedFor waiting (Opened o) = ⊥
-IsWaitedFor waiting (Happened event added) = (client : ℕ) × (event ≡ Append client) × IsAmong client waiting
+IsWaitedFor waiting (Happened event added ended) = (client : ℕ) × (event ≡ Append client) × IsAmong client waiting
 IsWaitedFor waiting (Halted at risen) = ⊥
 IsWaitedFor waiting (Lifted batch) = ⊥
 IsWaitedFor waiting Landed = ⊥

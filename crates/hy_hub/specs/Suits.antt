@@ -39,7 +39,7 @@ SuitsIn suits s (Stop call pattern) added = ⊤
 -- an event suits the state of a list
 abbrev pub SuitsNext : (State → Event → List EntryKind → Type 0) → List Occurrence → Occurrence → Type 0
 SuitsNext suits before (Opened o) = ⊤
-SuitsNext suits before (Happened event added) = SuitsIn suits (state_after before) event added.entries
+SuitsNext suits before (Happened event added ended) = SuitsIn suits (state_after before) event added.entries
 SuitsNext suits before (Halted at risen) = ⊤
 SuitsNext suits before (Lifted batch) = ⊤
 SuitsNext suits before Landed = ⊤
@@ -47,7 +47,7 @@ SuitsNext suits before Landed = ⊤
 -- An occurrence suits the list before it: an event does, and so does each of a batch that is lifted.
 abbrev pub SuitsAt : (State → Event → List EntryKind → Type 0) → List Occurrence → Occurrence → Type 0
 SuitsAt suits before (Opened o) = ⊤
-SuitsAt suits before (Happened event added) = SuitsNext suits before (Happened event added)
+SuitsAt suits before (Happened event added ended) = SuitsNext suits before (Happened event added ended)
 SuitsAt suits before (Halted at risen) = ⊤
 SuitsAt suits before (Lifted batch) = AllByRecursion (SuitsNext suits before) (events_told batch)
 SuitsAt suits before Landed = ⊤
