@@ -58,18 +58,29 @@ module _ (w : Setting) (front : List EntryKind) where
   pub longer : (s : State) (event : Event) (added : List EntryKind) → length front ≤ length s.log → s.armed ≡ None → length front ≤ length (after w s event added).log
   longer s event added low calm = let p = log_after w s event added calm in omega (arith, low, ap length p.1, length-append s.log p.0)
 
+  -- how a program begins doesn't depend on the log
+  ends_behind : (s : State) (event : Event) → ends_program w (swapped front s) event ≡ ends_program w s event
+  ends_behind s (Begin client) = refl
+  ends_behind s (Append client) = refl
+  ends_behind s (End client) = refl
+  ends_behind s (Refuse client) = refl
+  ends_behind s (Pad server) = refl
+  ends_behind s (Publish server upto) = refl
+  ends_behind s (Stop call pattern) = refl
+
   pub moves_behind : (s : State) (occurrences : List Occurrence) → length front ≤ length s.log → s.armed ≡ None → AreMoves w s occurrences → AreMoves w (swapped front s) occurrences
   moves_behind s [] low calm all = tt
   moves_behind s (Opened o ∷ occurrences) low calm all = absurd all
   moves_behind s (Halted at risen ∷ occurrences) low calm all = moves_behind s occurrences low calm all
   moves_behind s (Lifted batch ∷ occurrences) low calm all = moves_behind s occurrences low calm all
   moves_behind s (Landed ∷ occurrences) low calm all = moves_behind s occurrences low calm all
-  moves_behind s (Happened event added ∷ occurrences) low calm all =
+  moves_behind s (Happened event added ended ∷ occurrences) low calm all =
       let next : State = after w s event added.entries in
       let same = blind_after w front s event added.entries low in (
         subst (λ (z : State). Moves w (swapped front s) event added.entries z) same (move_swapped w front s next event added.entries low all.0),
         all.1,
-        subst (λ (z : State). AreMoves w z occurrences) same (moves_behind next occurrences (longer s event added.entries low calm) (unarmed w s event added.entries calm all.1) all.2),
+        all.2 ∙ sym (ends_behind s event),
+        subst (λ (z : State). AreMoves w z occurrences) same (moves_behind next occurrences (longer s event added.entries low calm) (unarmed w s event added.entries calm all.1) all.3),
       )
 
   pub led_behind : (s : State) (occurrences : List Occurrence) → length front ≤ length s.log → s.armed ≡ None → AreMoves w s occurrences → swapped front (after_all w s occurrences) ≡ after_all w (swapped front s) occurrences
@@ -78,8 +89,8 @@ module _ (w : Setting) (front : List EntryKind) where
   led_behind s (Halted at risen ∷ occurrences) low calm all = led_behind s occurrences low calm all
   led_behind s (Lifted batch ∷ occurrences) low calm all = led_behind s occurrences low calm all
   led_behind s (Landed ∷ occurrences) low calm all = led_behind s occurrences low calm all
-  led_behind s (Happened event added ∷ occurrences) low calm all =
-      led_behind (after w s event added.entries) occurrences (longer s event added.entries low calm) (unarmed w s event added.entries calm all.1) all.2
+  led_behind s (Happened event added ended ∷ occurrences) low calm all =
+      led_behind (after w s event added.entries) occurrences (longer s event added.entries low calm) (unarmed w s event added.entries calm all.1) all.3
       ∙ ap (λ (z : State). after_all w z occurrences) (blind_after w front s event added.entries low)
 
 -- ---- lists
