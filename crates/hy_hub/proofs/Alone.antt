@@ -45,8 +45,8 @@ module _ (old new : Known Occurrence) (keeps : KeepsMade old new) (from : ℕ) w
 
   led_kept : (of : Option ℕ) (place : ℕ) (x : Occurrence) → IsLedBy of old from place x → IsLedBy of new from place x
   led_kept of place (Opened o) led = led
-  led_kept of place (Happened event added) led =
-      ⊎_elim (λ (led : AppendsFor of event × LiftedBetween old from place). inl (led.0, lifted_kept place place (omega arith) led.1)) (λ (own : Makes old place (Happened event added)). inr (keeps place (Happened event added) own)) led
+  led_kept of place (Happened event added ended) led =
+      ⊎_elim (λ (led : AppendsFor of event × LiftedBetween old from place). inl (led.0, lifted_kept place place (omega arith) led.1)) (λ (own : Makes old place (Happened event added ended)). inr (keeps place (Happened event added ended) own)) led
   led_kept of place (Halted at risen) led = lifted_kept place place (omega arith) led
   led_kept of place (Lifted batch) led = keeps place (Lifted batch) led
   led_kept of place Landed led = lifted_kept place place (omega arith) led
@@ -58,7 +58,7 @@ AreLedIn of from pending pass list = (place : ℕ) (x : Occurrence) → from ≤
 -- a lift that was still to be made is made now
 lift_made : (of : Option ℕ) (pass : Known Occurrence) (from place : ℕ) (x : Occurrence) → is_lift x ≡ true → Makes pass place x → IsLedBy of pass from place x
 lift_made of pass from place (Opened o) lift own = absurd (cc lift)
-lift_made of pass from place (Happened event added) lift own = absurd (cc lift)
+lift_made of pass from place (Happened event added ended) lift own = absurd (cc lift)
 lift_made of pass from place (Halted at risen) lift own = absurd (cc lift)
 lift_made of pass from place (Lifted batch) lift own = own
 lift_made of pass from place Landed lift own = absurd (cc lift)
@@ -78,14 +78,14 @@ more_led of from before now pass list more none led next place x behind there =
 -- events of those for whom a call was made, halts and landings, before which the pass made a lift
 abbrev pub IsOfLift : Option ℕ → Occurrence → Type 0
 IsOfLift of (Opened o) = ⊥
-IsOfLift of (Happened event added) = AppendsFor of event
+IsOfLift of (Happened event added ended) = AppendsFor of event
 IsOfLift of (Halted at risen) = ⊤
 IsOfLift of (Lifted batch) = ⊥
 IsOfLift of Landed = ⊤
 
 led_of_lift : (of : Option ℕ) (pass : Known Occurrence) (from place : ℕ) (x : Occurrence) → IsOfLift of x → LiftedBetween pass from place → IsLedBy of pass from place x
 led_of_lift of pass from place (Opened o) is lifted = absurd is
-led_of_lift of pass from place (Happened event added) is lifted = inl (is, lifted)
+led_of_lift of pass from place (Happened event added ended) is lifted = inl (is, lifted)
 led_of_lift of pass from place (Halted at risen) is lifted = lifted
 led_of_lift of pass from place (Lifted batch) is lifted = absurd is
 led_of_lift of pass from place Landed is lifted = lifted
@@ -111,7 +111,7 @@ lift_pending of from pass list lift batch place led = more_led of from None (Som
 -- an event or a lift
 abbrev pub IsOwnKind : Occurrence → Type 0
 IsOwnKind (Opened o) = ⊥
-IsOwnKind (Happened event added) = ⊤
+IsOwnKind (Happened event added ended) = ⊤
 IsOwnKind (Halted at risen) = ⊥
 IsOwnKind (Lifted batch) = ⊤
 IsOwnKind Landed = ⊥
@@ -119,7 +119,7 @@ IsOwnKind Landed = ⊥
 -- an item at the end is the pass's own
 own_led_by : (of : Option ℕ) (pass : Known Occurrence) (from place : ℕ) (x : Occurrence) → IsOwnKind x → Makes pass place x → IsLedBy of pass from place x
 own_led_by of pass from place (Opened o) kind own = absurd kind
-own_led_by of pass from place (Happened event added) kind own = inr own
+own_led_by of pass from place (Happened event added ended) kind own = inr own
 own_led_by of pass from place (Halted at risen) kind own = absurd kind
 own_led_by of pass from place (Lifted batch) kind own = own
 own_led_by of pass from place Landed kind own = absurd kind
@@ -132,7 +132,7 @@ own_led of from pass list x kind own led = more_led of from None None pass list 
 -- an event of a client who waits is one of those for whom a call was made, where nobody else waits
 waited_for : (of : Option ℕ) (waiting : List ℕ) (x : Occurrence) → ((n : ℕ) → IsAmong n waiting → of ≡ Some n) → IsWaitedFor waiting x → IsOfLift of x
 waited_for of waiting (Opened o) own waits = absurd waits
-waited_for of waiting (Happened event added) own waits = subst (λ (o : Option ℕ). AppendsFor o event) (sym (own waits.0 waits.2)) waits.1
+waited_for of waiting (Happened event added ended) own waits = subst (λ (o : Option ℕ). AppendsFor o event) (sym (own waits.0 waits.2)) waits.1
 waited_for of waiting (Halted at risen) own waits = absurd waits
 waited_for of waiting (Lifted batch) own waits = absurd waits
 waited_for of waiting Landed own waits = absurd waits

@@ -19,7 +19,7 @@ use Rattle.hy_hub.specs.HubLaws.{BoardsAreRollers}
 boards_on : (boards : List Roll) (occurrences more : List Occurrence) → boards_from boards (occurrences ++ more) ≡ boards_from (boards_from boards occurrences) more
 boards_on boards [] more = refl
 boards_on boards (Opened o ∷ occurrences) more = boards_on boards occurrences more
-boards_on boards (Happened event added ∷ occurrences) more = boards_on (boards_then boards event added.board) occurrences more
+boards_on boards (Happened event added ended ∷ occurrences) more = boards_on (boards_then boards event added.board) occurrences more
 boards_on boards (Halted at risen ∷ occurrences) more = boards_on boards occurrences more
 boards_on boards (Lifted batch ∷ occurrences) more = boards_on boards occurrences more
 boards_on boards (Landed ∷ occurrences) more = boards_on boards occurrences more

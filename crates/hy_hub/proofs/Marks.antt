@@ -103,7 +103,7 @@ done_behind old list k x here behind = ap (λ o. option_map_or (λ y. put stands
 pub placed_done : (k : ℕ) (xs : List Occurrence) → count_by is_lift xs ≡ 0 → filter is_done (placed_at k xs) ≡ placed_at k xs
 placed_done k [] none = refl
 placed_done k (Opened o ∷ xs) none = ap (λ l. (k, Opened o) ∷ l) (placed_done (suc k) xs none)
-placed_done k (Happened e a ∷ xs) none = ap (λ l. (k, Happened e a) ∷ l) (placed_done (suc k) xs none)
+placed_done k (Happened e a ended ∷ xs) none = ap (λ l. (k, Happened e a ended) ∷ l) (placed_done (suc k) xs none)
 placed_done k (Halted at risen ∷ xs) none = ap (λ l. (k, Halted at risen) ∷ l) (placed_done (suc k) xs none)
 placed_done k (Lifted batch ∷ xs) none = let sum = sum_by-cons (λ (x : Occurrence). one_if (is_lift x)) (Lifted batch) xs in absurd (omega (arith, none, sum))
 placed_done k (Landed ∷ xs) none = ap (λ l. (k, Landed) ∷ l) (placed_done (suc k) xs none)
@@ -123,7 +123,7 @@ no_lift_more before added now is left = omega (arith, lifts_add before added, ap
 lifts_behind : (n m : ℕ) (last : ℕ × Batch) (more : List Occurrence) (k : ℕ) (batch : Batch) → n ≤ last.0 → n ≤ m → failed_from m (Some last) more ≡ Some (k, batch) → n ≤ k
 lifts_behind n m last [] k batch low low' e = absurd (cc e)
 lifts_behind n m last (Opened o ∷ more) k batch low low' e = lifts_behind n (suc m) last more k batch low (omega (arith, low')) e
-lifts_behind n m last (Happened event added ∷ more) k batch low low' e = lifts_behind n (suc m) last more k batch low (omega (arith, low')) e
+lifts_behind n m last (Happened event added ended ∷ more) k batch low low' e = lifts_behind n (suc m) last more k batch low (omega (arith, low')) e
 lifts_behind n m last (Halted at risen ∷ more) k batch low low' e = let same : last.0 ≡ k = cc e in omega (arith, low, same)
 lifts_behind n m last (Lifted next ∷ more) k batch low low' e = lifts_behind n (suc m) (m, next) more k batch low' (omega (arith, low')) e
 lifts_behind n m last (Landed ∷ more) k batch low low' e = lifts_behind n (suc m) last more k batch low (omega (arith, low')) e
@@ -134,7 +134,7 @@ fails_behind n front [] last k batch order home e = absurd (cc e)
 fails_behind n front (Opened o ∷ more) last k batch order home e =
     let x = Opened o in
     let next = fails_behind (suc n) (front ++ x ∷ []) more last k batch (subst AreInOrder (sym (append_assoc front (x ∷ []) more)) order) (flight_more None front (x ∷ []) ∙ home) e in omega (arith, next)
-fails_behind n front (Happened event added ∷ more) last k batch order home e =
+fails_behind n front (Happened event added ended ∷ more) last k batch order home e =
     let x = Happened event added in
     let next = fails_behind (suc n) (front ++ x ∷ []) more last k batch (subst AreInOrder (sym (append_assoc front (x ∷ []) more)) order) (flight_more None front (x ∷ []) ∙ home) e in omega (arith, next)
 fails_behind n front (Halted at risen ∷ more) last k batch order home e = let halt = (order front (Halted at risen) more refl).0 in let out = halt.out in absurd (cc (home, out))
@@ -148,7 +148,7 @@ failed_skip j last (Opened o ∷ xs) more calm =
     let r = failed_skip (suc j) last xs more calm in
     let n : suc j + length xs ≡ j + suc (length xs) = omega arith in
     (r.0, r.1 ∙ ap (λ m. failed_from m r.0 more) n)
-failed_skip j last (Happened event added ∷ xs) more calm =
+failed_skip j last (Happened event added ended ∷ xs) more calm =
     let r = failed_skip (suc j) last xs more calm in
     let n : suc j + length xs ≡ j + suc (length xs) = omega arith in
     (r.0, r.1 ∙ ap (λ m. failed_from m r.0 more) n)

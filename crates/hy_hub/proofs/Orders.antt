@@ -55,13 +55,13 @@ as_added [] before x after is = tt
 as_added (e ∷ es) before x after is = is
 
 -- an event that adds none may stand anywhere
-pub none_stands : (event : Event) (added : Additions) (before : List Occurrence) → added.entries ≡ [] → StandsInOrder before (Happened event added) []
-none_stands event added before none = subst (λ (es : List EntryKind). StandsAsAdded es before (Happened event added) []) (sym none) tt
+pub none_stands : (event : Event) (added : Additions) (ended : Bool) (before : List Occurrence) → added.entries ≡ [] → StandsInOrder before (Happened event added ended) []
+none_stands event added ended before none = subst (λ (es : List EntryKind). StandsAsAdded es before (Happened event added ended) []) (sym none) tt
 
 -- one stands in order as the list goes on
 stands_more : (before : List Occurrence) (x : Occurrence) (after more : List Occurrence) → StandsInOrder before x after → StandsInOrder before x (after ++ more)
 stands_more before (Opened o) after more is = tt
-stands_more before (Happened event added) after more is = added_more added.entries before (Happened event added) after more is
+stands_more before (Happened event added ended) after more is = added_more added.entries before (Happened event added ended) after more is
 stands_more before (Halted at risen) after more is = (is.0, (is.1.0 ++ more, ap (λ l. l ++ more) is.1.1))
 stands_more before (Lifted batch) after more is = is
 stands_more before Landed after more is = is
@@ -90,7 +90,7 @@ order_first o = order_one [] (Opened o) (λ before x after e. absurd (omega (ari
 
 abbrev is_event : Occurrence → Bool
 is_event (Opened o) = false
-is_event (Happened event added) = true
+is_event (Happened event added ended) = true
 is_event (Halted at risen) = false
 is_event (Lifted batch) = false
 is_event Landed = false
@@ -111,14 +111,14 @@ one_of P (y ∷ front) x back all = one_of P front x back all.1
 flight_events : (out : Option Batch) (xs : List Occurrence) → AllByRecursion (λ x. is_event x ≡ true) xs → flight_since out xs ≡ out
 flight_events out [] all = refl
 flight_events out (Opened o ∷ xs) all = absurd (cc (all.0))
-flight_events out (Happened event added ∷ xs) all = flight_events out xs all.1
+flight_events out (Happened event added ended ∷ xs) all = flight_events out xs all.1
 flight_events out (Halted at risen ∷ xs) all = absurd (cc (all.0))
 flight_events out (Lifted batch ∷ xs) all = absurd (cc (all.0))
 flight_events out (Landed ∷ xs) all = absurd (cc (all.0))
 
 event_stands : (list front rest : List Occurrence) (batch : Batch) (x : Occurrence) → is_event x ≡ true → flight_of list ≡ Some batch → events_told batch ≡ front ++ (x ∷ rest) → StandsInOrder (list ++ front) x (rest ++ Landed ∷ [])
 event_stands list front rest batch (Opened o) event out told = tt
-event_stands list front rest batch (Happened e added) event out told = as_added added.entries (list ++ front) (Happened e added) (rest ++ Landed ∷ []) (record {
+event_stands list front rest batch (Happened e added ended) event out told = as_added added.entries (list ++ front) (Happened e added ended) (rest ++ Landed ∷ []) (record {
   list = list;
   batch = batch;
   out = out;
@@ -173,7 +173,7 @@ order_failing list at risen order halt = order_more list (Halted at risen ∷ La
 failed_quiet : (k : ℕ) (last : Option (ℕ × Batch)) (more : List Occurrence) → halt_of more ≡ None → failed_from k last more ≡ None
 failed_quiet k last [] calm = refl
 failed_quiet k last (Opened o ∷ more) calm = failed_quiet (suc k) last more calm
-failed_quiet k last (Happened event added ∷ more) calm = failed_quiet (suc k) last more calm
+failed_quiet k last (Happened event added ended ∷ more) calm = failed_quiet (suc k) last more calm
 failed_quiet k last (Halted at risen ∷ more) calm = absurd (cc)
 failed_quiet k last (Lifted batch ∷ more) calm = failed_quiet (suc k) (Some (k, batch)) more calm
 failed_quiet k last (Landed ∷ more) calm = failed_quiet (suc k) last more calm
@@ -181,7 +181,7 @@ failed_quiet k last (Landed ∷ more) calm = failed_quiet (suc k) last more calm
 failed_on : (k : ℕ) (last : Option (ℕ × Batch)) (xs more : List Occurrence) → halt_of more ≡ None → failed_from k last (xs ++ more) ≡ failed_from k last xs
 failed_on k last [] more calm = failed_quiet k last more calm
 failed_on k last (Opened o ∷ xs) more calm = failed_on (suc k) last xs more calm
-failed_on k last (Happened event added ∷ xs) more calm = failed_on (suc k) last xs more calm
+failed_on k last (Happened event added ended ∷ xs) more calm = failed_on (suc k) last xs more calm
 failed_on k last (Halted at risen ∷ xs) more calm = refl
 failed_on k last (Lifted batch ∷ xs) more calm = failed_on (suc k) (Some (k, batch)) xs more calm
 failed_on k last (Landed ∷ xs) more calm = failed_on (suc k) last xs more calm
@@ -195,7 +195,7 @@ failed_at : (k : ℕ) (last : Option (ℕ × Batch)) (out : Option Batch) (xs : 
     → (j : ℕ) × (failed_from k last (xs ++ (Halted at risen ∷ more)) ≡ Some (j, batch))
 failed_at k last out [] at risen more batch link calm is = link batch is
 failed_at k last out (Opened o ∷ xs) at risen more batch link calm is = failed_at (suc k) last out xs at risen more batch link calm is
-failed_at k last out (Happened event added ∷ xs) at risen more batch link calm is = failed_at (suc k) last out xs at risen more batch link calm is
+failed_at k last out (Happened event added ended ∷ xs) at risen more batch link calm is = failed_at (suc k) last out xs at risen more batch link calm is
 failed_at k last out (Halted h r ∷ xs) at risen more batch link calm is = absurd (cc)
 failed_at k last out (Lifted next ∷ xs) at risen more batch link calm is =
     failed_at (suc k) (Some (k, next)) (Some next) xs at risen more batch (λ b e. (k, (let same : next ≡ b = cc e in ap (λ (n : Batch). Some (k, n)) same))) calm is
@@ -214,7 +214,7 @@ one_behind x last lift xs found = ⊎_elim (λ (e : last ≡ Some lift). inl e) 
 failed_lifted : (n : ℕ) (last : Option (ℕ × Batch)) (xs : List Occurrence) (lift : ℕ × Batch) → failed_from n last xs ≡ Some lift → (last ≡ Some lift) ⊎ IsLiftIn xs lift.1
 failed_lifted n last [] lift e = absurd (cc e)
 failed_lifted n last (Opened o ∷ xs) lift e = one_behind (Opened o) last lift xs (failed_lifted (suc n) last xs lift e)
-failed_lifted n last (Happened event added ∷ xs) lift e = one_behind (Happened event added) last lift xs (failed_lifted (suc n) last xs lift e)
+failed_lifted n last (Happened event added ended ∷ xs) lift e = one_behind (Happened event added ended) last lift xs (failed_lifted (suc n) last xs lift e)
 failed_lifted n last (Halted at risen ∷ xs) lift e = inl e
 failed_lifted n last (Lifted next ∷ xs) lift e =
     ⊎_elim (λ (is : Some (n, next) ≡ Some lift). let same : next ≡ lift.1 = cc is in inr ([], xs, ap (λ (b : Batch). Lifted b ∷ xs) same)) (λ (r : IsLiftIn xs lift.1). inr (Lifted next ∷ r.0, r.1, ap (λ l. Lifted next ∷ l) r.2))

@@ -15,7 +15,7 @@ waited_more client waiting (x ∷ xs) all = (one x all.0, waited_more client wai
   where
     one : (x : Occurrence) → IsWaitedFor waiting x → IsWaitedFor (client ∷ waiting) x
     one (Opened o) is = absurd is
-    one (Happened event added) is = (is.0, is.1, inr is.2)
+    one (Happened event added ended) is = (is.0, is.1, inr is.2)
     one (Halted at risen) is = absurd is
     one (Lifted batch) is = absurd is
     one Landed is = absurd is
