@@ -8,6 +8,7 @@ use Rattle.hy_base.specs.Log.{HaveLawfulSnaps, IsLawful}
 use Rattle.hy_base.specs.declared.layout.Shape.{Shape}
 use Rattle.hy_base.specs.declared.record.EntryKind.{EntryKind}
 use Rattle.hy_base.specs.declared.workload.Event.{Event}
+use Rattle.hy_base.specs.declared.workload.Event.TheVariants.{Begin, Append, End, Refuse, Pad, Publish, Stop}
 use Rattle.hy_base.specs.declared.record.EntryKind.TheVariants.{Filler}
 use Rattle.hy_rules.specs.CutLogs.{AreLawfulPast, filled, starting_with, swapped}
 use Rattle.hy_rules.specs.Moves.{Setting, State, Moves, after}
@@ -16,7 +17,7 @@ use Rattle.hy_hub.specs.declared.occurrence.Occurrence.{Occurrence}
 use Rattle.hy_hub.specs.declared.occurrence.Occurrence.TheVariants.{Opened, Happened, Halted, Lifted, Landed}
 use Rattle.hy_hub.specs.Hub.{IsHubHistory}
 use Rattle.hy_hub.specs.Calls.{len_of}
-use Rattle.hy_hub.specs.Trace.{state_after, after_all, from_in, AreMoves}
+use Rattle.hy_hub.specs.Trace.{state_after, after_all, from_in, ends_program, AreMoves}
 use Rattle.hy_hub.proofs.Passing.{log_more}
 use Rattle.hy_hub.proofs.Turns.{unarmed}
 use Rattle.hy_clients.specs.Passing.{log_behind, opened_log}
