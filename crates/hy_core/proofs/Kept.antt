@@ -85,13 +85,13 @@ found_all {X} P p (y ∷ ys) x e all = by (p y) refl e (λ h. found_all P p ys x
 
 -- where an item passes the test, one is found
 found_first : {X : Type 0} (p : X → Bool) (x : X) (xs : List X) → p x ≡ true → IsSome (find p (x ∷ xs))
-found_first p x xs is = subst (λ b. IsSome (cond b (Some x) (find p xs))) (sym is) tt
+found_first p x xs is = subst (λ b. IsSome (cond b (Some x) (find p xs))) (sym is) refl
 
 found_later : {X : Type 0} (p : X → Bool) (x : X) (xs : List X) → IsSome (find p xs) → IsSome (find p (x ∷ xs))
 found_later p x xs some = by (p x)
   where
     by : (b : Bool) → IsSome (cond b (Some x) (find p xs))
-    by true = tt
+    by true = refl
     by false = some
 
 -- the board doesn't lie past the position, or the oldest one doesn't

@@ -55,7 +55,21 @@ roll-requires-clause-room g c = λ ks outlives.
     subst (λ l. rolled_upto r + length l ≤ r.shape.cap) (sym entries) can.rolls.room
 
 pub returns-then-from-snap : goal.returns-then-from-snap
-returns-then-from-snap g c = ?
+returns-then-from-snap g c =
+    let h : Holding = log_held c.args.core.now in
+    let own = ap (λ rs. nth rs c.args.server) (sym c.deref.ensures.value) ∙ sym c.in-Some.ensures in
+    let older = ap (λ hs. nth hs c.args.server) (sym c.deref-2.ensures.value) ∙ sym c.in-Some-earlier_of.ensures in
+    let r = c.in-Some-newest_upto.roller.now in
+    let can = can_give c.args.script.now h c.args.server c.args.snap r c.in-Some.board.now c.in-Some-earlier_of.earlier.now c.requires.holding c.requires.within c.requires.whole own older (sym c.in-Some-newest_upto.ensures) in
+    IfOk-weaker c.share.result _ _ (λ tree same. ap pairs_of same ∙ (c.tree.ensures.pairs ∙ given_live c.args.script.now h c.args.snap r c.shape-shape.ensures.script can (sym c.at-from.ensures ∙ c.if-from-snap.true))) c.share.ensures.same
 
 pub returns : goal.returns
-returns g c = ?
+returns g c =
+    let h : Holding = log_held c.args.core.now in
+    let own = ap (λ rs. nth rs c.args.server) (sym c.deref.ensures.value) ∙ sym c.in-Some.ensures in
+    let older = ap (λ hs. nth hs c.args.server) (sym c.deref-2.ensures.value) ∙ sym c.in-Some-earlier_of.ensures in
+    let r = c.in-Some-newest_upto.roller.now in
+    let can = can_give c.args.script.now h c.args.server c.args.snap r c.in-Some.board.now c.in-Some-earlier_of.earlier.now c.requires.holding c.requires.within c.requires.whole own older (sym c.in-Some-newest_upto.ensures) in
+    let entries = c.between-entries.ensures ∙ (λ i. entries_between (c.deref-3.ensures.value i) (c.at-from.ensures i) c.args.snap) in
+    let rolled = rolled_live c.args.script.now h.log r c.in_ok-rolled.rolled c.args.snap c.shape-shape.ensures.script c.requires.holding.lawful can.board can.low c.requires.within c.requires.whole (c.in_ok-rolled.ensures ∙ ap (roll_on r) entries) in
+    IfOk-weaker c.share-2.result _ _ (λ tree same. ap pairs_of same ∙ (c.tree-2.ensures.pairs ∙ rolled)) c.share-2.ensures.same
