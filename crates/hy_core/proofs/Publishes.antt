@@ -12,12 +12,13 @@ use Rattle.hy_base.specs.Lists.{nth, change_nth}
 use Rattle.hy_base.specs.Script.{Workload, IsScript}
 use Rattle.hy_base.proofs.NthLemmas.{nth_within, map_change, length_change, all_nth}
 use Rattle.hy_rolling.specs.Rolling.{Roll, rolled_upto, roll_on}
-use Rattle.hy_rules.specs.Moves.{State, board_of, is_declared, ends_whole_group}
+use Rattle.hy_rules.specs.Moves.{State, board_of, is_declared, ends_whole_group, keeping}
 use Rattle.hy_rules.specs.Runs.{setting_of, may_happen}
-use Rattle.hy_core.specs.CoreParts.{Holding, IsHolding, IsServerBoard, StepsTo, entries_between, furthest, state_in_course, done_of}
+use Rattle.hy_core.specs.CoreParts.{Holding, IsHolding, IsServerBoard, StepsTo, entries_between, furthest, keeping_rolls, state_in_course, done_of}
 use Rattle.hy_core.proofs.Beginning.{board_is}
-use Rattle.hy_core.proofs.Publishing.{WholeGroups, all_change, between_groups, between_length, server_is}
-use Rattle.hy_core.proofs.Rerolls.{RolledBoard, rolled_board}
+use Rattle.hy_core.proofs.Kept.{all_keeping, keeping_is}
+use Rattle.hy_core.proofs.Publishing.{all_change, server_is}
+use Rattle.hy_core.proofs.Rerolls.{RolledBoard, RollsTo, rolled_board, rolls_to}
 
 pub record MayPublish (script : Workload) (h : Holding) (server upto : ℕ) : Type 0 where
   pub declared : IsWithin 1 script.servers server
@@ -70,6 +71,7 @@ pub record CanRoll (script : Workload) (h : Holding) (server upto : ℕ) (r : Ro
   pub whole : length (entries_between h.log (rolled_upto r) upto) % r.shape.group ≡ 0
   pub room : rolled_upto r + length (entries_between h.log (rolled_upto r) upto) ≤ r.shape.cap
   pub place : IsWithin 1 (length h.rollers) server
+  pub list : IsWithin 1 (length h.earlier) server
 
 pub can_roll : (script : Workload) (h : Holding) (server upto : ℕ) (own r : Roll) → IsHolding script h → may_happen script (state_in_course h) (Publish server upto) ≡ true → nth h.rollers server ≡ Some own → r ≡ furthest upto own h.rollers → CanRoll script h server upto r
 can_roll script h server upto own r is may at far =
@@ -77,38 +79,41 @@ can_roll script h server upto own r is may at far =
     let above : rolled_upto own < upto = subst (λ n. n < upto) (board_is h server own at) m.above in
     let low : rolled_upto r ≤ upto = subst (λ x. rolled_upto x ≤ upto) (sym far) (furthest_low upto own h.rollers (omega (arith, above))) in
     let b : IsServerBoard script h.log r = subst (IsServerBoard script h.log) (sym far) (furthest_is (IsServerBoard script h.log) upto own h.rollers (all_nth (IsServerBoard script h.log) h.rollers server own is.boards at) is.boards) in
-    let entries : List EntryKind = entries_between h.log (rolled_upto r) upto in
-    let groups : WholeGroups script entries = between_groups script h.log r upto b low m.within m.whole in
-    let whole : length entries % script.shape.group ≡ 0 = ap (λ n. n % script.shape.group) groups.is ∙ mul-mod_right script.shape.group groups.count in
-    let len : rolled_upto r + length entries ≡ upto = between_length script h.log r upto b low m.within in
-    let fits : rolled_upto r + length entries ≤ script.shape.cap = omega (arith, len, m.within, is.lawful.capacity) in
+    let rolls : RollsTo h.log r upto = rolls_to script h.log r upto is.lawful b low m.within m.whole in
     record {
       board = b;
       order = low;
       within = m.within;
-      whole = subst (λ s. length entries % s.group ≡ 0) (sym b.shape) whole;
-      room = subst (λ s. rolled_upto r + length entries ≤ s.cap) (sym b.shape) fits;
+      whole = rolls.whole;
+      room = rolls.room;
       place = nth_within h.rollers server own at;
+      list = record { at_least = m.declared.at_least; at_most = omega (arith, m.declared.at_most, is.lists) };
     }
 
 -- ---- the event
 
-pub publish_steps : (script : Workload) (h new : Holding) (server upto : ℕ) (r rolled : Roll) → IsScript script → IsHolding script h → may_happen script (state_in_course h) (Publish server upto) ≡ true → CanRoll script h server upto r
-    → rolled ≡ roll_on r (entries_between h.log (rolled_upto r) upto) → new ≡ record h { rollers = change_nth (λ _. rolled) h.rollers server } → StepsTo script h new (Publish server upto)
-publish_steps script h new server upto r rolled script_is is may can rolls is_new =
+-- the parts after it
+abbrev pub published : Holding → ℕ → ℕ → Roll → Roll → Holding
+published h server keeps own rolled = record h { rollers = change_nth (λ _. rolled) h.rollers server; earlier = change_nth (keeping_rolls keeps own) h.earlier server }
+
+pub publish_steps : (script : Workload) (h new : Holding) (server upto : ℕ) (own r rolled : Roll) → IsScript script → IsHolding script h → may_happen script (state_in_course h) (Publish server upto) ≡ true → nth h.rollers server ≡ Some own → CanRoll script h server upto r
+    → rolled ≡ roll_on r (entries_between h.log (rolled_upto r) upto) → new ≡ published h server script.keeps own rolled → StepsTo script h new (Publish server upto)
+publish_steps script h new server upto own r rolled script_is is may at can rolls is_new =
     let m : MayPublish script h server upto = may_publish script h server upto may in
     let on : RolledBoard script h.log rolled upto = rolled_board script h.log r rolled upto script_is is.lawful can.board can.order m.within m.whole rolls in
-    let steps : StepsTo script h (record h { rollers = change_nth (λ _. rolled) h.rollers server }) (Publish server upto) = record {
+    let steps : StepsTo script h (published h server script.keeps own rolled) (Publish server upto) = record {
       holding = record {
         stored = is.stored;
         armed = is.armed;
         lawful = is.lawful;
         servers = length_change (λ _. rolled) h.rollers server ∙ is.servers;
         boards = all_change (IsServerBoard script h.log) h.rollers server rolled on.board is.boards;
+        lists = length_change (keeping_rolls script.keeps own) h.earlier server ∙ is.lists;
+        earlier = all_keeping (IsServerBoard script h.log) script.keeps own h.earlier server (all_nth (IsServerBoard script h.log) h.rollers server own is.boards at) is.earlier;
         client_states = is.client_states;
         told = is.told;
       };
-      leads = (λ i. record { log = h.log; boards = (map_change rolled_upto h.rollers server rolled ∙ ap (λ n. change_nth (λ _. n) (map rolled_upto h.rollers) server) on.at) i; sessions = (state_in_course h).sessions; armed = h.armed });
+      leads = (λ i. record { log = h.log; boards = (map_change rolled_upto h.rollers server rolled ∙ ap (λ n. change_nth (λ _. n) (map rolled_upto h.rollers) server) on.at) i; earlier = (keeping_is script.keeps own h.earlier server ∙ ap (λ n. change_nth (keeping script.keeps n) (state_in_course h).earlier server) (sym (board_is h server own at))) i; sessions = (state_in_course h).sessions; armed = h.armed });
       ends = sym (append-nil (done_of h));
       whole = refl;
     } in

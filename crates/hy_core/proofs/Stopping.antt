@@ -83,12 +83,12 @@ module _ {script : Workload} {h : Holding} {client : ℕ} {e : EntryKind} (a : A
     | inl keeps ↦
         let b : BegunClientState (struck stop e h) client begun.0 begun.1 begun.2 = record { is = begun.3.is; phase = begun.3.phase; running = begun.3.running } in
         let mid_is = kept keeps begun.0 begun.1 begun.2 e b entry_is in
-        subst (λ n. StepsTo script h n (Append client)) (sym (settles.is ∙ (λ i. record { log = sym (append-nil (mid_is i).log) i; pages = (mid_is i).pages; rollers = rs; client_states = map abandoned_client_state (mid_is i).client_states; told = (mid_is i).told ++ all_abandoned 1 (mid_is i).client_states; armed = None })))
+        subst (λ n. StepsTo script h n (Append client)) (sym (settles.is ∙ (λ i. record { log = sym (append-nil (mid_is i).log) i; pages = (mid_is i).pages; rollers = rs; earlier = map (λ older. []) (mid_is i).earlier; client_states = map abandoned_client_state (mid_is i).client_states; told = (mid_is i).told ++ all_abandoned 1 (mid_is i).client_states; armed = None })))
         (append_kept script h client pos begun.0 begun.1 begun.2 e stop rs a.script_is a.is armed keeps at_end begun.3 left.own (appends_lawful stop) boards)
     | inr drops ↦
         let none : kept_by stop e ≡ [] = ap (λ (c : Bool). replicate (if c then 1 else 0) e) drops in
         let mid_is : mid ≡ struck stop e h = dropped drops in
-        subst (λ n. StepsTo script h n (Append client)) (sym (settles.is ∙ (λ i. record { log = (ap (λ (k : Holding). k.log) mid_is ∙ (sym (append-nil h.log) ∙ ap (λ l. h.log ++ l) (sym none))) i; pages = (mid_is i).pages; rollers = rs; client_states = map abandoned_client_state (mid_is i).client_states; told = (mid_is i).told ++ all_abandoned 1 (mid_is i).client_states; armed = None })))
+        subst (λ n. StepsTo script h n (Append client)) (sym (settles.is ∙ (λ i. record { log = (ap (λ (k : Holding). k.log) mid_is ∙ (sym (append-nil h.log) ∙ ap (λ l. h.log ++ l) (sym none))) i; pages = (mid_is i).pages; rollers = rs; earlier = map (λ older. []) (mid_is i).earlier; client_states = map abandoned_client_state (mid_is i).client_states; told = (mid_is i).told ++ all_abandoned 1 (mid_is i).client_states; armed = None })))
         (append_lost script h client begun.1 e stop rs a.is armed drops begun.3.is (ap is_begun begun.3.phase) (appends_lawful stop) boards)
   ]
 

@@ -1,5 +1,5 @@
 -- What the core keeps of a run, and how it stands for a state.
-use Rattle.std.specs.Prelude.{◌≡◌, ℕ, ◌+◌, ◌-◌, ◌%◌, ◌^◌, ◌<◌, ◌≤◌, List, [], ◌∷◌, ◌++◌, map, length, take, drop, Option, None, Some, is_none, is_some, IfSome, true, option_map, option_to_list, option_and_then, replicate, Bool, ◌&&◌, not, nat_le, nat_lt, if◌then◌else◌, ⊤}
+use Rattle.std.specs.Prelude.{◌≡◌, ℕ, ◌+◌, ◌-◌, ◌%◌, ◌^◌, ◌<◌, ◌≤◌, List, [], ◌∷◌, ◌++◌, map, length, take, drop, Option, None, Some, is_none, is_some, IfSome, true, option_map, option_to_list, option_and_then, unwrap_or, find, Result, Ok, Err, replicate, Bool, ◌&&◌, not, nat_le, nat_lt, if◌then◌else◌, ⊤}
 use Rattle.std.specs.List.{AllByRecursion}
 use Rattle.hy_base.specs.declared.record.EntryKind.{EntryKind}
 use Rattle.hy_base.specs.declared.record.EntryKind.TheVariants.{Txn}
@@ -18,7 +18,7 @@ use Rattle.hy_rules.specs.Validation.{live}
 use Rattle.hy_rules.specs.Exec.{Effects, exec, intention}
 use Rattle.hy_rolling.specs.Rolling.{Roll, rolled_upto, Stands}
 use Rattle.hy_base.specs.Shape.{is_within, whole_groups}
-use Rattle.hy_rules.specs.Moves.{State, surviving, client_passes, is_begun, fresh_session, after}
+use Rattle.hy_rules.specs.Moves.{State, Start, On, Past, NotYet, surviving, client_passes, is_begun, fresh_session, after}
 use Rattle.hy_rules.specs.Runs.{snap_of, Ending, ByStop, Ended, answers_to, setting_of, leaves_write, added, ended_by, is_done}
 use Rattle.hy_formats.specs.EntryFormat.{spelling}
 use Rattle.hy_memlog.specs.Pages.{Pages, IsStop, with_body, broken_log}
@@ -28,24 +28,25 @@ use Rattle.hy_core.specs.declared.parts.Parts.{Parts}
 use Rattle.hy_core.specs.declared.parts.ClientState.{ClientState}
 use Rattle.hy_core.specs.declared.parts.EndedProgram.{EndedProgram}
 use Rattle.hy_roller.specs.declared.ended.ProgramEnd.{ProgramEnd}
-use Rattle.hy_roller.specs.declared.ended.ProgramEnd.TheVariants.{EntryAt}
+use Rattle.hy_roller.specs.declared.ended.ProgramEnd.TheVariants.{EntryAt, Past as TooEarly, NotYet as TooLate}
 use Rattle.hy_roller.specs.Telling.{ending_of}
 use Rattle.hy_core.specs.Course.{Course, IsReached}
 
--- what the core keeps
+-- What the core keeps: of each server the roller of its board, and those of the boards before it, the newest first.
 pub record Holding : Type 0 where
   pub log : List EntryKind
   pub pages : Pages
   pub rollers : List Roll
+  pub earlier : List (List Roll)
   pub client_states : List ClientState
   pub told : List EndedProgram
   pub armed : Option ArmedStop
 
 abbrev pub log_held : Parts → Holding
-log_held p = record { log = p.log.items; pages = p.pages; rollers = p.rollers.items; client_states = p.client_states.items; told = p.told.items; armed = p.armed }
+log_held p = record { log = p.log.items; pages = p.pages; rollers = p.rollers.items; earlier = p.earlier.items; client_states = p.client_states.items; told = p.told.items; armed = p.armed }
 
 abbrev pub state_in_course : Holding → State
-state_in_course h = record { log = h.log; boards = map rolled_upto h.rollers; sessions = map (λ x. x.session) h.client_states; armed = h.armed }
+state_in_course h = record { log = h.log; boards = map rolled_upto h.rollers; earlier = map (map rolled_upto) h.earlier; sessions = map (λ x. x.session) h.client_states; armed = h.armed }
 
 -- how a program ended, or none where a stop ended it
 abbrev pub ending_in_course : Option ProgramEnd → Ending
@@ -93,7 +94,7 @@ AreClientStates script log number [] (x ∷ xs) = ⊥
 AreClientStates script log number (c ∷ cs) [] = ⊥
 AreClientStates script log number (c ∷ cs) (x ∷ xs) = IsClientState script log number c x × AreClientStates script log (number + 1) cs xs
 
--- a server's board: a roller that stands for the log up to there
+-- a server's board, or one before it: a roller that stands for the log up to there
 pub record IsServerBoard (script : Workload) (log : List EntryKind) (r : Roll) : Type 0 where
   pub shape : r.shape ≡ script.shape
   pub from_first : r.from ≡ 0
@@ -116,6 +117,8 @@ pub record IsHolding (script : Workload) (h : Holding) : Type 0 where
   pub lawful : IsLawful script.shape h.log
   pub servers : length h.rollers ≡ script.servers
   pub boards : AllByRecursion (IsServerBoard script h.log) h.rollers
+  pub lists : length h.earlier ≡ script.servers
+  pub earlier : AllByRecursion (AllByRecursion (IsServerBoard script h.log)) h.earlier
   pub client_states : AreClientStates script h.log 1 script.clients h.client_states
   pub told : AllByRecursion (IsStepAnswered script h.log) h.told
 
@@ -128,7 +131,7 @@ pub record IsCore (script : Workload) (h : Holding) : Type 0 where
 pub record StepsTo (script : Workload) (old new : Holding) (event : Event) : Type 0 where
   pub holding : IsHolding script new
   pub leads : state_in_course new ≡ after (setting_of script) (state_in_course old) event (added script (state_in_course old) event)
-  pub ends : done_of new ≡ done_of old ++ ended_by (state_in_course old) event
+  pub ends : done_of new ≡ done_of old ++ ended_by (setting_of script) (state_in_course old) event
   pub whole : is_none new.pages.bodies ≡ is_none old.pages.bodies
 
 -- whether a client's program is begun, and then whether it wrote
@@ -211,6 +214,34 @@ pub record IsUnfinishedAt (clients : List Client) (client_states : List ClientSt
   pub session_is : is.client_state.session ≡ session
   pub server_is : is.own.server ≡ server
 
+-- how a program begins: on a snapshot, or it has ended so
+abbrev pub snap_or_end : Start → Result ℕ ProgramEnd
+snap_or_end (On snap) = Ok snap
+snap_or_end (Past from) = Err (TooEarly from)
+snap_or_end (NotYet board) = Err (TooLate board)
+
+-- a client's next program ends before it is begun: it is told without answers, and the client's state is at the program after it
+abbrev pub turning_away : Holding → ℕ → ClientState → ProgramEnd → Holding
+turning_away h client x end = record h {
+  client_states = change_nth (λ _. departed x.session.next x.session.last) h.client_states client;
+  told = h.told ++ record { client = client; number = x.session.next; snap = 0; end = Some end; answers = [] } ∷ [];
+}
+
+abbrev pub TurnsAway : Holding → Holding → ℕ → ProgramEnd → Type 0
+TurnsAway old new client end = (x : ClientState) → nth old.client_states client ≡ Some x → new ≡ turning_away old client x end
+
+-- the newest of these rollers that hasn't passed a position
+abbrev pub newest_upto : ℕ → List Roll → Option Roll
+newest_upto pos rs = find (λ r. nat_le (rolled_upto r) pos) rs
+
+-- the rollers that a server keeps, the newest first
+abbrev pub kept_rollers : Holding → ℕ → List Roll
+kept_rollers h server = option_to_list (nth h.rollers server) ++ unwrap_or (nth h.earlier server) []
+
+-- A server that keeps so many boards moves on: the board before is the first of the earlier ones.
+abbrev pub keeping_rolls : ℕ → Roll → List Roll → List Roll
+keeping_rolls keeps board older = take (keeps - 1) (board ∷ older)
+
 -- of a roller and of these, the furthest that hasn't passed a position
 abbrev pub furthest : ℕ → Roll → List Roll → Roll
 furthest upto best [] = best
@@ -286,4 +317,4 @@ all_abandoned number (x ∷ xs) = abandoned_told number x ++ all_abandoned (numb
 
 -- servers and clients restart
 pub record HasRestarted (old new : Holding) (rs : List Roll) : Type 0 where
-  pub is : new ≡ record old { rollers = rs; client_states = map abandoned_client_state old.client_states; told = old.told ++ all_abandoned 1 old.client_states; armed = None }
+  pub is : new ≡ record old { rollers = rs; earlier = map (λ older. []) old.earlier; client_states = map abandoned_client_state old.client_states; told = old.told ++ all_abandoned 1 old.client_states; armed = None }

@@ -9,6 +9,7 @@ ghost use Rattle.hy_rules.specs.Moves.{is_kept};
 ghost use Rattle.hy_memlog.specs.Pages.{IsStop};
 ghost use Rattle.hy_core.specs.CoreParts.{IsHolding, AreRestarted, HasPlaces, ClientStateFits, HasRestarted, abandoned_client_state, abandoned_told, kept_by, struck, broken, log_held};
 
+use crate::earlier::clear_all;
 use crate::parts::{ClientState, EndedProgram, Parts, roller_of};
 use hy_base::{Answers, ArmedStop, Entry, Phase, Pos, Script, Session, Shape, Shared, share_all};
 use hy_codec::encode;
@@ -165,7 +166,8 @@ fn abandon(alloc: Global, client_state: &mut ClientState, told: &mut Vec<EndedPr
     });
 }
 
-/// The servers and the clients restart: the boards are these, each begun program is lost, and no stop is armed.
+/// The servers and the clients restart: the boards are these, the first of a new list, each begun program is lost, and no stop
+/// is armed.
 pub(crate) fn settle(alloc: Global, core: &mut Parts, rollers: Vec<Roller>)
     requires places { vec_len core.old.told + length core.old.client_states.items ≤ vec_capacity core.old.told }
     requires few { length core.old.client_states.items ≤ 128 }
@@ -173,6 +175,7 @@ pub(crate) fn settle(alloc: Global, core: &mut Parts, rollers: Vec<Roller>)
     ensures { HasRestarted (log_held core.old) (log_held core.new) rollers.items }
 {
     core.rollers = rollers;
+    clear_all(&mut core.earlier);
     core.armed = None;
     for at in 0..core.client_states.len() {
         abandon(

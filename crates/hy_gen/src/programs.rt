@@ -15,6 +15,9 @@ pub const CLIENTS: u8 = 8;
 /// How many servers there are.
 pub const SERVERS: u8 = 4;
 
+/// How many of its last boards each server keeps.
+pub const KEEPS: u8 = 1;
+
 /// The server of a client.
 pub fn home(client: u8) -> u8
     requires { IsWithin 1 8 client }
@@ -99,6 +102,7 @@ fn programs(alloc: Global, seed: u64, size: u32, client: u8) -> Result<Programs,
         let commands = commands(alloc, 8 * turn + first, drawn)?;
         programs.push(Program {
             isolation: Isolation::Serializable,
+            as_of: None,
             commands,
         })?;
         words.advance(21);
