@@ -65,7 +65,7 @@ with_program program script = record script { clients = change_last (gains_progr
 abbrev pub begun : Mode → Program
 begun mode = record { isolation = mode.isolation; as_of = mode.as_of; commands = [] }
 
--- what a program asks for that asks for no position, and what one asks for that does
+-- what is asked for by a program without a position, and by one with a position
 abbrev pub at_isolation : Isolation → Mode
 at_isolation isolation = record { isolation = isolation; as_of = None }
 

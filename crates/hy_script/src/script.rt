@@ -273,7 +273,7 @@ fn position_of(shape: Shape, fields: Fields<'_>) -> Result<Mode, Why>
     }
 }
 
-// A program that asks for no isolation and no position.
+// A program that asks for no position.
 fn plain_mode(isolation: Isolation) -> Mode
     ensures { result ≡ at_isolation isolation }
 {
