@@ -25,7 +25,7 @@ found_one : {T : Type 0} (found : Option ℕ) (meaning : ℕ → Meaning T)
 found_one None meaning = refl
 found_one (Some n) meaning = refl
 
-one_field : {T : Type 0} (t : Bool) (meaning : ℕ → Meaning T) (found : Option ℕ)
+pub one_field : {T : Type 0} (t : Bool) (meaning : ℕ → Meaning T) (found : Option ℕ)
     → (if t || false then Err Form else option_map_or (λ m. judged_words m) (option_and_then (λ l. Some (meaning l)) found) (Err Number))
     ≡ and_then (if t then Err Form else ok_or found Number) (λ n. judged_words (meaning n))
 one_field true meaning found = refl
@@ -69,7 +69,7 @@ read_one name meaning [] = refl
 read_one name meaning (a ∷ []) = one_field (is_blank a) meaning (number_of a)
 read_one name meaning (a ∷ b ∷ rest) = other_count (OneNumber name meaning) (a ∷ b ∷ rest) (ne_eqb 1 (length (a ∷ b ∷ rest)) (omega arith))
 
-two_fields : {T : Type 0} (t : Bool) (meaning : ℕ → ℕ → Meaning T) (x y : Option ℕ)
+pub two_fields : {T : Type 0} (t : Bool) (meaning : ℕ → ℕ → Meaning T) (x y : Option ℕ)
     → (if t then Err Form else option_map_or (λ m. judged_words m) (option_and_then (λ l. option_and_then (λ m. Some (meaning l m)) y) x) (Err Number))
     ≡ and_then {A = ℕ × ℕ} (if t then Err Form else and_then (ok_or x Number) (λ l. and_then {B = ℕ × ℕ} (ok_or y Number) (λ m. Ok (l, m)))) (λ p. judged_words (meaning p.0 p.1))
 two_fields true meaning x y = refl

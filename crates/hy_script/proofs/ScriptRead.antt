@@ -1,6 +1,6 @@
 -- From what a script was read as, to the words of its lines.
 use Rattle.std.proofs.Common.{arith, ◌≡◌, ℕ, ◌<◌, Bool, true, false, List, [], ◌∷◌, ◌++◌, length, refl, sym, ap, subst, ◌∙◌, append_assoc, append-nil, if◌then◌else◌, nat_lt}
-use Rattle.std.specs.Prelude.{map, flat_map, Some, None, Result, Ok, Err, IfOk, codes, decimal, ⊤}
+use Rattle.std.specs.Prelude.{map, flat_map, is_some, Option, Some, None, Result, Ok, Err, IfOk, codes, decimal, ⊤}
 use Rattle.std.specs.List.{AllByRecursion}
 use Rattle.std.proofs.lemmas.List.{map_push}
 use Rattle.hy_base.specs.declared.layout.Shape.{Shape}
@@ -11,7 +11,7 @@ use Rattle.hy_base.specs.declared.workload.Program.{Program}
 use Rattle.hy_base.specs.declared.record.Isolation.{Isolation}
 use Rattle.hy_base.specs.declared.record.Isolation.TheVariants.{Serializable, Snapshot}
 use Rattle.hy_base.specs.Entry.{is_told}
-use Rattle.hy_base.specs.Script.{Workload, IsProgram, IsScript, client_count}
+use Rattle.hy_base.specs.Script.{Workload, IsAsOf, IsProgram, IsScript, client_count, mode_of}
 use Rattle.hy_base.specs.Shape.{IsGoodShape, IsWithin}
 use Rattle.hy_base.specs.Spelling.{Text}
 use Rattle.hy_base.proofs.ListLemmas.{all_push}
@@ -22,7 +22,7 @@ use Rattle.hy_script.specs.Outcome.{Reads}
 use Rattle.hy_script.specs.LineParts.{after_listing, after_program_line, leading}
 use Rattle.hy_script.specs.ScriptReading.{script_ended, place_after, place_after_all, read_script, start_after}
 use Rattle.hy_script.specs.ScriptFields.{listing_line, program_line, servers_line, shape_line}
-use Rattle.hy_script.specs.ScriptSpelling.{client_lines, command_words, isolation_fields, program_lines, script_lines, spelled_shape}
+use Rattle.hy_script.specs.ScriptSpelling.{asked_fields, begin_words, client_lines, command_words, program_lines, script_lines, spelled_shape}
 use Rattle.hy_script.specs.declared.refused.ReadError.{ReadError}
 use Rattle.hy_script.specs.declared.refused.Reading.{Reading}
 use Rattle.hy_script.specs.declared.refused.Refused.{Refused}
@@ -36,7 +36,7 @@ use Rattle.hy_script.proofs.LinesRead.{IsListingLine, IsProgramLine, listing_was
 use Rattle.hy_script.proofs.PlaceLemmas.{next_kept}
 use Rattle.hy_script.proofs.ProgramLines.{listing_leads, program_leads}
 use Rattle.hy_script.proofs.ReadLemmas.{scheduled, finish, then_all}
-use Rattle.hy_script.proofs.ScriptLines.{served, servers_leads}
+use Rattle.hy_script.proofs.ScriptLines.{listing_of, servers_leads}
 use Rattle.hy_script.proofs.ShapeLines.{shape_leads}
 
 -- lists that grow
@@ -51,7 +51,7 @@ abbrev said : Place → List (List Text)
 said AtStart = []
 said (Shaped shape) = spelled_shape shape ∷ []
 said (Listing script) = script_lines script
-said (Programming script program) = script_lines script ++ (codes "begin" ∷ isolation_fields program.isolation) ∷ map command_words program.commands
+said (Programming script program) = script_lines script ++ begin_words (mode_of program) ∷ map command_words program.commands
 said (Scheduled script start) = script_lines script
 
 record IsOpenProgram (script : Workload) (program : Program) : Type 0 where
@@ -60,6 +60,7 @@ record IsOpenProgram (script : Workload) (program : Program) : Type 0 where
   pub room : last_program_count script.clients < 10000
   pub lawful : IsProgram program
   pub told : is_told script.shape.version program.isolation ≡ true
+  pub asks : IsAsOf script.shape program.as_of
   pub fits : AllByRecursion FitsFields program.commands
 
 abbrev IsReachedPlace : Place → Type 0
@@ -99,28 +100,37 @@ module _ (sim : Bool) (p : ℕ × Text) (next : Place) where
 
   from_shaped : (shape : Shape) → IsGoodShape shape → place_after sim (Shaped shape) p ≡ Ok next → LineFollows (said (Shaped shape)) p next
   from_shaped shape good e =
-      let step = leading_was (served shape) (servers_line (words_of p.1)) next (servers_leads sim shape p.0 (words_of p.1) ∙ e) in
+      let step = leading_was (listing_of shape) (servers_line (words_of p.1)) next (servers_leads sim shape p.0 (words_of p.1) ∙ e) in
       let was = servers_was (words_of p.1) step.0 step.1 in
-      let lawful : IsScript (record { shape = shape; servers = step.0; clients = [] }) =
-      record { shape = good; servers = was.1; clients = λ k d below. absurd (omega (arith, below)); client_count = λ k. omega arith; isolations = λ k d below. absurd (omega (arith, below)) } in
-      subst (LineFollows (said (Shaped shape)) p) step.2 (record { lawful = lawful; clients = tt }, ap (λ w. said (Shaped shape) ++ plain w ∷ []) (sym was.0))
+      let lawful : IsScript (record { shape = shape; servers = step.0.servers; keeps = step.0.keeps; clients = [] }) =
+      record {
+        shape = good;
+        servers = was.servers;
+        keeps = was.keeps;
+        clients = λ k d below. absurd (omega (arith, below));
+        client_count = λ k. omega arith;
+        isolations = λ k d below. absurd (omega (arith, below));
+        positions = tt;
+      } in
+      subst (LineFollows (said (Shaped shape)) p) step.2 (record { lawful = lawful; clients = tt }, ap (λ w. said (Shaped shape) ++ w ∷ []) (sym was.are))
 
 -- between programs
 
 spellable_client : (script : Workload) (server : ℕ) → IsScriptSpellable script → IsWithin 1 script.servers server → client_count script.clients server < 16 → IsScriptSpellable (with_client server script)
 spellable_client script server s within room = record {
-  lawful = client_kept script.shape script.servers server script.clients s.lawful within room;
+  lawful = client_kept script.shape script.servers script.keeps server script.clients s.lawful within room;
   clients = all_push ClientFits script.clients (record { server = server; programs = [] }) s.clients tt;
 }
 
 client_said : (script : Workload) (server : ℕ) (words : List Text) → words ≡ codes "client" ∷ decimal server ∷ [] → script_lines (with_client server script) ≡ script_lines script ++ words ∷ []
 client_said script server words are =
-    ap (λ l. script_lines (record { shape = script.shape; servers = script.servers; clients = [] }) ++ l) (flat_map_push client_lines script.clients (record { server = server; programs = [] }))
+    ap (λ l. script_lines (record { shape = script.shape; servers = script.servers; keeps = script.keeps; clients = [] }) ++ l) (flat_map_push client_lines script.clients (record { server = server; programs = [] }))
     ∙ ap (λ w. script_lines script ++ w ∷ []) (sym are)
 
-plain_begin : (isolation : Isolation) → plain (codes "begin" ∷ isolation_fields isolation) ≡ codes "begin" ∷ isolation_fields isolation
-plain_begin Serializable = refl
-plain_begin Snapshot = refl
+plain_begin : (isolation : Isolation) (as_of : Option ℕ) → plain (codes "begin" ∷ asked_fields isolation as_of) ≡ codes "begin" ∷ asked_fields isolation as_of
+plain_begin Serializable None = refl
+plain_begin Snapshot None = refl
+plain_begin isolation (Some pos) = refl
 
 plain_command : (command : Command) → plain (command_words command) ≡ command_words command
 plain_command (Get key) = refl
@@ -131,9 +141,17 @@ plain_command (Scan lo hi n) = refl
 
 listed : (script : Workload) (p : ℕ × Text) (read : ListingLine) → IsScriptSpellable script → IsListingLine script (words_of p.1) read → LineFollows (script_lines script) p (after_listing script p.0 read)
 listed script p (ClientLine server) s was = (spellable_client script server s was.1 was.2, client_said script server (plain (words_of p.1)) (ap plain was.0))
-listed script p (Begin isolation) s was = (
-  record { script_is = s; some = was.1; room = was.2; told = was.3; lawful = record { count = omega arith; commands = λ k d below. absurd (omega (arith, below)) }; fits = tt },
-  ap (λ w. script_lines script ++ w ∷ []) (sym (ap plain was.0 ∙ plain_begin isolation)),
+listed script p (Begin mode) s was = (
+  record {
+    script_is = s;
+    some = was.1;
+    room = was.2;
+    told = was.3;
+    asks = was.4.0;
+    lawful = record { count = omega arith; commands = λ k d below. absurd (omega (arith, below)); reads = λ asks k d below. absurd (omega (arith, below)); plain = was.4.1 };
+    fits = tt;
+  },
+  ap (λ w. script_lines script ++ w ∷ []) (sym (ap plain was.0 ∙ plain_begin mode.isolation mode.as_of)),
 )
 listed script p Schedule s was = record { script_is = s; whole = refl; number = refl; word = was }
 
@@ -171,7 +189,7 @@ program_lawful script program lawful s =
     let last = last_of script.clients s.some in
     let room : length last.1.programs < 10000 = omega (arith, s.room, ap last_program_count last.2, last_program_count_is last.0 last.1) in
     subst (λ cs. IsScript (script_with script cs)) (sym (ap (change_last (gains_program program)) last.2 ∙ change_last_is (gains_program program) last.0 last.1))
-    (program_kept script.shape script.servers last.0 last.1 program (subst (λ cs. IsScript (script_with script cs)) last.2 lawful) room s.lawful s.told)
+    (program_kept script.shape script.servers script.keeps last.0 last.1 program (subst (λ cs. IsScript (script_with script cs)) last.2 lawful) room s.lawful s.told s.asks)
 
 spellable_program : (script : Workload) (program : Program) → IsOpenProgram script program → IsScriptSpellable (with_program program script)
 spellable_program script program s = record {
@@ -180,29 +198,30 @@ spellable_program script program s = record {
 }
 
 program_said : (script : Workload) (program : Program) (words : List Text) → 0 < length script.clients → words ≡ codes "end" ∷ []
-    → script_lines (with_program program script) ≡ (script_lines script ++ (codes "begin" ∷ isolation_fields program.isolation) ∷ map command_words program.commands) ++ words ∷ []
+    → script_lines (with_program program script) ≡ (script_lines script ++ begin_words (mode_of program) ∷ map command_words program.commands) ++ words ∷ []
 program_said script program words some are =
     ap (λ l. script_lines (script_with script []) ++ l) (changed_lines program script.clients some)
-    ∙ sym (append_assoc (script_lines script) ((codes "begin" ∷ isolation_fields program.isolation) ∷ map command_words program.commands) ((codes "end" ∷ []) ∷ []))
-    ∙ ap (λ w. (script_lines script ++ (codes "begin" ∷ isolation_fields program.isolation) ∷ map command_words program.commands) ++ w ∷ []) (sym are)
+    ∙ sym (append_assoc (script_lines script) (begin_words (mode_of program) ∷ map command_words program.commands) ((codes "end" ∷ []) ∷ []))
+    ∙ ap (λ w. (script_lines script ++ begin_words (mode_of program) ∷ map command_words program.commands) ++ w ∷ []) (sym are)
 
 command_said : (script : Workload) (program : Program) (command : Command) (words : List Text) → words ≡ command_words command
-    → script_lines script ++ (codes "begin" ∷ isolation_fields program.isolation) ∷ map command_words (program.commands ++ command ∷ []) ≡ (script_lines script ++ (codes "begin" ∷ isolation_fields program.isolation) ∷ map command_words program.commands) ++ words ∷ []
+    → script_lines script ++ begin_words (mode_of program) ∷ map command_words (program.commands ++ command ∷ []) ≡ (script_lines script ++ begin_words (mode_of program) ∷ map command_words program.commands) ++ words ∷ []
 command_said script program command words are =
-    ap (λ l. script_lines script ++ (codes "begin" ∷ isolation_fields program.isolation) ∷ l) (map_push command_words program.commands command)
-    ∙ sym (append_assoc (script_lines script) ((codes "begin" ∷ isolation_fields program.isolation) ∷ map command_words program.commands) (command_words command ∷ []))
-    ∙ ap (λ w. (script_lines script ++ (codes "begin" ∷ isolation_fields program.isolation) ∷ map command_words program.commands) ++ w ∷ []) (sym are)
+    ap (λ l. script_lines script ++ begin_words (mode_of program) ∷ l) (map_push command_words program.commands command)
+    ∙ sym (append_assoc (script_lines script) (begin_words (mode_of program) ∷ map command_words program.commands) (command_words command ∷ []))
+    ∙ ap (λ w. (script_lines script ++ begin_words (mode_of program) ∷ map command_words program.commands) ++ w ∷ []) (sym are)
 
-programmed : (script : Workload) (program : Program) (p : ℕ × Text) (read : ProgramLine) → IsOpenProgram script program → IsProgramLine (length program.commands) (words_of p.1) read
+programmed : (script : Workload) (program : Program) (p : ℕ × Text) (read : ProgramLine) → IsOpenProgram script program → IsProgramLine (is_some program.as_of) (length program.commands) (words_of p.1) read
     → LineFollows (said (Programming script program)) p (after_program_line script program read)
 programmed script program p (Next command) s was = (
   record {
     script_is = s.script_is;
     some = s.some;
     room = s.room;
-    lawful = next_kept program (program.commands ++ command ∷ []) command s.lawful was.lawful was.room refl;
+    lawful = next_kept program (program.commands ++ command ∷ []) command s.lawful was.lawful was.may was.room refl;
     fits = all_push FitsFields program.commands command s.fits was.fits;
     told = s.told;
+    asks = s.asks;
   },
   command_said script program command (plain (words_of p.1)) (ap plain was.are ∙ plain_command command),
 )
@@ -211,8 +230,8 @@ programmed script program p End s was = (spellable_program script program s, pro
 from_programming : (sim : Bool) (p : ℕ × Text) (next : Place) (script : Workload) (program : Program) → IsOpenProgram script program → place_after sim (Programming script program) p ≡ Ok next
     → LineFollows (said (Programming script program)) p next
 from_programming sim p next script program s e =
-    let step = leading_was (after_program_line script program) (program_line (length program.commands) (words_of p.1)) next (program_leads sim p.0 script program (words_of p.1) ∙ e) in
-    subst (LineFollows (said (Programming script program)) p) step.2 (programmed script program p step.0 s (program_was (length program.commands) (words_of p.1) step.0 step.1))
+    let step = leading_was (after_program_line script program) (program_line (is_some program.as_of) (length program.commands) (words_of p.1)) next (program_leads sim p.0 script program (words_of p.1) ∙ e) in
+    subst (LineFollows (said (Programming script program)) p) step.2 (programmed script program p step.0 s (program_was (is_some program.as_of) (length program.commands) (words_of p.1) step.0 step.1))
 
 -- all lines
 

@@ -4,7 +4,7 @@ use Rattle.std.specs.Fmt.{digits}
 use Rattle.std.specs.Prelude.{Option, Some, None, Ok, Err, codes}
 use Rattle.hy_base.specs.declared.record.Isolation.TheVariants.{Serializable, Snapshot}
 use Rattle.hy_base.specs.Script.{Workload}
-use Rattle.hy_script.specs.Grammar.{AtStart, Shaped, Listing, Programming, begun, last_program_count}
+use Rattle.hy_script.specs.Grammar.{AtStart, Shaped, Listing, Programming, at_isolation, begun, last_program_count}
 use Rattle.hy_script.specs.ScriptReading.{place_after}
 use Rattle.hy_script.specs.declared.why.Why.TheVariants.{Word, Form, Number, Range, Count, Version}
 
@@ -12,6 +12,7 @@ abbrev with_horizon : ℕ → Option ℕ → Workload
 with_horizon version horizon = record {
   shape = record { group = 1; window = 1; cap = 8; version = version; horizon = horizon };
   servers = 1;
+  keeps = 1;
   clients = record { server = 1; programs = [] } ∷ [];
 }
 
@@ -102,13 +103,13 @@ other_number_first = refl
 
 -- isolations
 
-begins_snapshot : place_after false (Listing (of_version 2)) (4, codes "begin snapshot") ≡ Ok (Programming (of_version 2) (begun Snapshot))
+begins_snapshot : place_after false (Listing (of_version 2)) (4, codes "begin snapshot") ≡ Ok (Programming (of_version 2) (begun (at_isolation Snapshot)))
 begins_snapshot = refl
 
-begins : place_after false (Listing (of_version 2)) (4, codes "begin") ≡ Ok (Programming (of_version 2) (begun Serializable))
+begins : place_after false (Listing (of_version 2)) (4, codes "begin") ≡ Ok (Programming (of_version 2) (begun (at_isolation Serializable)))
 begins = refl
 
-begins_snapshot_later : place_after false (Listing (with_horizon 3 (Some 9))) (4, codes "begin snapshot") ≡ Ok (Programming (with_horizon 3 (Some 9)) (begun Snapshot))
+begins_snapshot_later : place_after false (Listing (with_horizon 3 (Some 9))) (4, codes "begin snapshot") ≡ Ok (Programming (with_horizon 3 (Some 9)) (begun (at_isolation Snapshot)))
 begins_snapshot_later = refl
 
 early : place_after false (Listing (of_version 1)) (4, codes "begin snapshot") ≡ Err Version
@@ -120,7 +121,7 @@ other_word = refl
 more_words : place_after false (Listing (of_version 1)) (4, codes "begin snapshot 1") ≡ Err Form
 more_words = refl
 
-no_client : place_after false (Listing (record { shape = (of_version 2).shape; servers = 1; clients = [] })) (3, codes "begin snapshot") ≡ Err Word
+no_client : place_after false (Listing (record { shape = (of_version 2).shape; servers = 1; keeps = 1; clients = [] })) (3, codes "begin snapshot") ≡ Err Word
 no_client = refl
 
 blank_word : place_after false (Listing (of_version 2)) (4, codes "begin ") ≡ Err Form

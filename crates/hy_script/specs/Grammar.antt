@@ -1,9 +1,10 @@
 -- The lines of a script and of a schedule: which may stand where, and what each of them makes.
-use Rattle.std.specs.Prelude.{ℕ, Bool, ◌&&◌, List, [], ◌∷◌, ◌++◌, length, nat_lt, nat_le, if◌then◌else◌, Option, Some, None, Result, is_ok}
+use Rattle.std.specs.Prelude.{ℕ, ◌%◌, Bool, true, ◌&&◌, ◌==◌, List, [], ◌∷◌, ◌++◌, length, nat_lt, nat_le, if◌then◌else◌, Option, Some, None, is_some, Result, is_ok}
 use Rattle.hy_base.specs.declared.layout.Shape.{Shape}
 use Rattle.hy_base.specs.declared.workload.Command.{Command}
 use Rattle.hy_base.specs.declared.workload.Command.TheVariants.{Get, Put, Del, Add, Scan}
 use Rattle.hy_base.specs.declared.workload.Client.{Client}
+use Rattle.hy_base.specs.declared.workload.Mode.{Mode}
 use Rattle.hy_base.specs.declared.workload.Program.{Program}
 use Rattle.hy_base.specs.declared.workload.Event.{Event}
 use Rattle.hy_base.specs.declared.workload.Event.TheVariants.{Begin, Append, End, Refuse, Pad, Publish, Stop}
@@ -14,7 +15,7 @@ use Rattle.hy_base.specs.declared.record.Isolation.TheVariants.{Serializable, Sn
 use Rattle.hy_base.specs.Entry.{is_told}
 use Rattle.hy_base.specs.Value.{is_value}
 use Rattle.hy_base.specs.Spelling.{Text}
-use Rattle.hy_script.specs.Forms.{Meaning, LineForm, Alone, OneNumber, TwoNumbers, ThreeNumbers, NumberAndText, FixedWord, OtherFourth, FixedFourth, read_line}
+use Rattle.hy_script.specs.Forms.{Meaning, LineForm, Alone, OneNumber, TwoNumbers, ThreeNumbers, NumberAndText, FixedWord, WordAndNumber, OtherFourth, FixedFourth, read_line}
 use Rattle.hy_script.specs.declared.why.Why.{Why}
 use Rattle.hy_script.specs.declared.why.Why.TheVariants.{Value, Range, Order, Count, Version}
 
@@ -61,8 +62,23 @@ abbrev pub with_program : Program → Workload → Workload
 with_program program script = record script { clients = change_last (gains_program program) script.clients }
 
 -- a program without commands
-abbrev pub begun : Isolation → Program
-begun isolation = record { isolation = isolation; commands = [] }
+abbrev pub begun : Mode → Program
+begun mode = record { isolation = mode.isolation; as_of = mode.as_of; commands = [] }
+
+-- what is asked for by a program without a position, and by one with a position
+abbrev pub at_isolation : Isolation → Mode
+at_isolation isolation = record { isolation = isolation; as_of = None }
+
+abbrev pub at_position : ℕ → Mode
+at_position pos = record { isolation = Serializable; as_of = Some pos }
+
+-- a position that a program may ask for is the end of a group, and one that the log may have
+abbrev pub is_position : Shape → ℕ → Bool
+is_position shape pos = (pos % shape.group == 0) && nat_le pos shape.cap
+
+abbrev pub is_as_of : Shape → Option ℕ → Bool
+is_as_of shape None = true
+is_as_of shape (Some pos) = is_position shape pos
 
 abbrev pub gains_command : Command → Program → Program
 gains_command command program = record program { commands = program.commands ++ command ∷ [] }
@@ -81,10 +97,14 @@ shape_forms =
     ∷ FixedFourth "shape" "3" (λ group window cap horizon. shaped group window cap 3 (Some horizon))
     ∷ []
 
--- servers S
-abbrev pub servers_form : Shape → LineForm Place
-servers_form shape = OneNumber "servers" (λ servers.
-    makes_if ((is_within 1 8 servers, Range) ∷ []) (Listing (record { shape = shape; servers = servers; clients = [] })))
+-- so many servers, each of which keeps so many of its last boards
+abbrev pub served : Shape → ℕ → ℕ → Meaning Place
+served shape servers keeps =
+    makes_if ((is_within 1 8 servers && is_within 1 64 keeps, Range) ∷ []) (Listing (record { shape = shape; servers = servers; keeps = keeps; clients = [] }))
+
+-- servers S, with one board each; and servers S K
+abbrev pub servers_forms : Shape → List (LineForm Place)
+servers_forms shape = OneNumber "servers" (λ servers. served shape servers 1) ∷ TwoNumbers "servers" (λ servers keeps. served shape servers keeps) ∷ []
 
 -- client S
 abbrev pub client_form : Workload → LineForm Place
@@ -92,13 +112,18 @@ client_form script = OneNumber "client" (λ server.
     makes_if ((is_within 1 script.servers server, Range) ∷ (nat_lt (client_count script.clients server) 16, Count) ∷ []) (Listing (with_client server script)))
 
 -- a further program of the last client
-abbrev pub begins_program : Workload → Isolation → Meaning Place
-begins_program script isolation =
-    makes_if ((nat_lt (last_program_count script.clients) 10000, Count) ∷ (is_told script.shape.version isolation, Version) ∷ []) (Programming script (begun isolation))
+abbrev pub begins_program : Workload → Mode → Meaning Place
+begins_program script mode =
+    makes_if ((is_as_of script.shape mode.as_of, Range) ∷ (nat_lt (last_program_count script.clients) 10000, Count) ∷ (is_told script.shape.version mode.isolation, Version) ∷ [])
+    (Programming script (begun mode))
 
--- begin, and begin snapshot
+-- begin, begin snapshot, and begin at Q
 abbrev pub begin_forms : Workload → List (LineForm Place)
-begin_forms script = Alone "begin" (begins_program script Serializable) ∷ FixedWord "begin" "snapshot" (begins_program script Snapshot) ∷ []
+begin_forms script =
+    Alone "begin" (begins_program script (at_isolation Serializable))
+    ∷ FixedWord "begin" "snapshot" (begins_program script (at_isolation Snapshot))
+    ∷ WordAndNumber "begin" "at" (λ pos. begins_program script (at_position pos))
+    ∷ []
 
 -- end
 abbrev pub end_form : Workload → Program → LineForm Place
@@ -112,25 +137,32 @@ schedule_form number script = Alone "schedule" (makes (Scheduled script number))
 abbrev pub gains : Workload → Program → Command → List (Bool × Why) → Meaning Place
 gains script program command tests = makes_if (tests ++ (nat_lt (length program.commands) 64, Count) ∷ []) (Programming script (gains_command command program))
 
--- get K, put K V, del K, add K N, scan LO HI N
-abbrev pub command_forms : Workload → Program → List (LineForm Place)
-command_forms script program =
+-- get K, scan LO HI N
+abbrev pub reading_forms : Workload → Program → List (LineForm Place)
+reading_forms script program =
     OneNumber "get" (λ key. gains script program (Get key) [])
-    ∷ NumberAndText "put" (λ key value. gains script program (Put key value) ((is_value value, Value) ∷ []))
-    ∷ OneNumber "del" (λ key. gains script program (Del key) [])
-    ∷ TwoNumbers "add" (λ key n. gains script program (Add key n) [])
     ∷ ThreeNumbers "scan" (λ lo hi n. gains script program (Scan lo hi n) ((is_within 1 1000 n, Range) ∷ (nat_le lo hi, Order) ∷ []))
     ∷ []
 
+-- put K V, del K, add K N
+abbrev pub writing_forms : Workload → Program → List (LineForm Place)
+writing_forms script program =
+    NumberAndText "put" (λ key value. gains script program (Put key value) ((is_value value, Value) ∷ []))
+    ∷ OneNumber "del" (λ key. gains script program (Del key) [])
+    ∷ TwoNumbers "add" (λ key n. gains script program (Add key n) [])
+    ∷ []
+
 -- The lines that may stand at a place, this being the line with the number that is given. Where there is a simulation a schedule may follow the clients.
+-- A program that asks for a position only reads.
 abbrev pub forms_at : Bool → Place → ℕ → List (LineForm Place)
 forms_at sim AtStart number = shape_forms
-forms_at sim (Shaped shape) number = servers_form shape ∷ []
+forms_at sim (Shaped shape) number = servers_forms shape
 forms_at sim (Listing script) number =
     client_form script
     ∷ (if nat_lt 0 (length script.clients) then begin_forms script else [])
     ++ (if sim then schedule_form number script ∷ [] else [])
-forms_at sim (Programming script program) number = command_forms script program ++ end_form script program ∷ []
+forms_at sim (Programming script program) number =
+    reading_forms script program ++ (if is_some program.as_of then [] else writing_forms script program) ++ end_form script program ∷ []
 forms_at sim (Scheduled script start) number = []
 
 abbrev pub event_of_client : Workload → Event → ℕ → Meaning Event

@@ -1,10 +1,13 @@
 -- What the line of a place tells, apart from where it leads.
-use Rattle.std.specs.Prelude.{◌≡◌, ◌<◌, ℕ, true, ⊤, length, List, Result, Ok, Err}
+use Rattle.std.specs.Prelude.{◌≡◌, ◌<◌, ℕ, Bool, true, ⊤, length, List, is_some, Result, Ok, Err}
 use Rattle.hy_base.specs.declared.workload.Program.{Program}
 use Rattle.hy_base.specs.declared.workload.Client.{Client as ScriptClient}
 use Rattle.hy_base.specs.Shape.{IsWithin, IsGoodShape}
 use Rattle.hy_base.specs.Entry.{is_told}
-use Rattle.hy_base.specs.Script.{Workload, IsCommand, IsProgram, client_count}
+use Rattle.hy_base.specs.Script.{Workload, IsAsOf, IsCommand, IsProgram, IsReading, client_count}
+use Rattle.hy_base.specs.declared.layout.Shape.{Shape}
+use Rattle.hy_base.specs.declared.record.Isolation.TheVariants.{Serializable}
+use Rattle.hy_base.specs.declared.workload.Mode.{Mode}
 use Rattle.hy_script.specs.declared.reader.Place.{Place as PlaceCode}
 use Rattle.hy_script.specs.declared.reader.Place.TheVariants.{Start as StartCode, Shaped as ShapedCode, Listing as ListingCode, Programming as ProgrammingCode}
 use Rattle.hy_script.specs.declared.reader.Step.{Step}
@@ -34,7 +37,7 @@ LeadsTo place (Err e) read = FailsAs e read
 
 abbrev pub after_listing : Workload → ℕ → ListingLine → Place
 after_listing script number (Client server) = Listing (with_client server script)
-after_listing script number (Begin isolation) = Programming script (begun isolation)
+after_listing script number (Begin mode) = Programming script (begun mode)
 after_listing script number Schedule = Scheduled script number
 
 abbrev pub after_program_line : Workload → Program → ProgramLine → Place
@@ -57,19 +60,24 @@ abbrev pub IsPlace : PlaceCode → Type 0
 IsPlace StartCode = ⊤
 IsPlace (ShapedCode shape) = IsGoodShape shape
 IsPlace (ListingCode script) = ⊤
-IsPlace (ProgrammingCode script program) = (0 < length script.clients) × (last_program_count script.clients < 10000) × (is_told script.shape.version program.isolation ≡ true) × IsProgram program
+IsPlace (ProgrammingCode script program) =
+    (0 < length script.clients) × (last_program_count script.clients < 10000) × (is_told script.shape.version program.isolation ≡ true) × IsAsOf script.shape program.as_of × IsProgram program
 
 abbrev pub IsStep : Step → Type 0
 IsStep (To place) = IsPlace place
 IsStep (Reaches script) = ⊤
 
--- what a line between programs tells, in a script of a version
-abbrev pub IsClientListed : ℕ → ℕ → List ScriptClient → ListingLine → Type 0
-IsClientListed version servers clients (Client server) = IsWithin 1 servers server × (client_count clients server < 16)
-IsClientListed version servers clients (Begin isolation) = (0 < length clients) × (last_program_count clients < 10000) × (is_told version isolation ≡ true)
-IsClientListed version servers clients Schedule = ⊤
+-- a program may ask for this, where a log has this shape; one that asks for a position asks for nothing else
+abbrev pub IsMode : Shape → Mode → Type 0
+IsMode shape mode = IsAsOf shape mode.as_of × (is_some mode.as_of ≡ true → mode.isolation ≡ Serializable)
 
--- and a line of a program that has so many commands
-abbrev pub IsNextLine : ℕ → ProgramLine → Type 0
-IsNextLine count (Next command) = IsCommand command × (count < 64)
-IsNextLine count End = ⊤
+-- what a line between programs tells, in a script of a shape
+abbrev pub IsClientListed : Shape → ℕ → List ScriptClient → ListingLine → Type 0
+IsClientListed shape servers clients (Client server) = IsWithin 1 servers server × (client_count clients server < 16)
+IsClientListed shape servers clients (Begin mode) = (0 < length clients) × (last_program_count clients < 10000) × (is_told shape.version mode.isolation ≡ true) × IsMode shape mode
+IsClientListed shape servers clients Schedule = ⊤
+
+-- and a line of a program that has so many commands, and that only reads where that is asked
+abbrev pub IsNextLine : Bool → ℕ → ProgramLine → Type 0
+IsNextLine reads count (Next command) = IsCommand command × (reads ≡ true → IsReading command) × (count < 64)
+IsNextLine reads count End = ⊤

@@ -191,6 +191,8 @@ fn put_outcome(out: &mut Vec<u8>, outcome: Outcome) -> Result<(), AllocError>
         Outcome::At { pos, verdict } => put_verdict(out, pos as u64, verdict),
         Outcome::Full => put_line(out, b"full", &[]),
         Outcome::Lost => put_line(out, b"lost", &[]),
+        Outcome::Past { from } => put_line(out, b"past", &[Word::Number(from as u64)]),
+        Outcome::NotYet { board } => put_line(out, b"notyet", &[Word::Number(board as u64)]),
     }
 }
 
