@@ -23,9 +23,11 @@ Shape = collections.namedtuple("Shape", "group window cap version horizon", defa
 # points: ascending keys; spans: ascending (lo, hi); writes: ascending (key, bytes or None); whether it is at Snapshot isolation. A filler has client 0.
 Entry = collections.namedtuple("Entry", "server client snap points spans writes snapshot", defaults=(False,))
 Answer = collections.namedtuple("Answer", "status text log points spare", defaults=(None,))
-Script = collections.namedtuple("Script", "shape servers clients")
+# keeps: how many of its last boards each server keeps.
+Script = collections.namedtuple("Script", "shape servers clients keeps", defaults=(1,))
 Client = collections.namedtuple("Client", "server programs")
-Program = collections.namedtuple("Program", "commands snapshot", defaults=(False,))
+# as_of: the position that it asks for, or none.
+Program = collections.namedtuple("Program", "commands snapshot as_of", defaults=(False, None))
 
 
 def is_good(shape):
@@ -606,6 +608,7 @@ class ScriptReader:
         self.simulated = simulated
         self.state = "shape"
         self.shape = self.servers = None
+        self.keeps = 1
         self.clients = []
         self.program = None
         self.events = []
@@ -616,14 +619,16 @@ class ScriptReader:
         if self.state == "events":
             return set(EVENTS)
         if self.program is not None:
-            return {*COMMANDS, b"end"}
+            return {b"end", *(COMMANDS if self.program.as_of is None else (b"get", b"scan"))}
         return {b"client", *([b"begin"] if self.clients else []), *([b"schedule"] if self.simulated else [])}
 
     def range_fault(self, word, numbers):
         if word == b"shape":
             return not is_good(Shape(*numbers))
         if word == b"servers":
-            return not 1 <= numbers[0] <= 8
+            return not (1 <= numbers[0] <= 8 and all(1 <= keeps <= 64 for keeps in numbers[1:]))
+        if word == b"begin":
+            return any(asked % self.shape.group or asked > self.shape.cap for asked in numbers)
         if word in (b"client", b"p"):
             return not 1 <= numbers[0] <= self.servers
         if word == b"scan":
@@ -654,9 +659,13 @@ class ScriptReader:
             # Six words exactly where the fourth is the third version's.
             if len(words) in (4, 5) and (len(words) == 5) != (words[3] == b"3"):
                 raise Refused(number, "form")
+        if word == b"servers" and len(words) == 2:
+            kinds = "nn"
         snapshot = word == b"begin" and words == [b"snapshot"]
         if snapshot:
             words = []
+        if word == b"begin" and words and words[0] == b"at":
+            words, kinds = words[1:], "n"
         if len(words) != len(kinds) or b"" in words:
             raise Refused(number, "form")
         if any(kind == "n" and not is_number(text) for kind, text in zip(kinds, words)):
@@ -678,11 +687,12 @@ class ScriptReader:
         if word == b"shape":
             self.shape, self.state = Shape(*fields), "servers"
         elif word == b"servers":
-            self.servers, self.state = fields[0], "clients"
+            self.servers, *keeps = fields
+            self.keeps, self.state = (keeps or [1])[0], "clients"
         elif word == b"client":
             self.clients.append(Client(fields[0], []))
         elif word == b"begin":
-            self.program = Program([], snapshot)
+            self.program = Program([], snapshot, *fields)
         elif word == b"end":
             self.clients[-1].programs.append(self.program)
             self.program = None
@@ -705,7 +715,7 @@ def read_source(source, simulated):
             reader.read(number, line)
     if reader.state in ("shape", "servers") or reader.program is not None:
         raise Refused(len(lines) + 1, "missing")
-    return Script(reader.shape, reader.servers, reader.clients), reader.events
+    return Script(reader.shape, reader.servers, reader.clients, reader.keeps), reader.events
 
 
 # ---- runs
@@ -721,7 +731,8 @@ class Core:
         self.script = script
         self.fold = fold_of(script.shape, entries, point)
         whole = len(entries) // script.shape.group * script.shape.group
-        self.boards = [whole] * script.servers
+        # The boards that each server keeps, the newest last.
+        self.kept = [[whole] for _ in range(script.servers)]
         self.next = [0] * len(script.clients)
         self.begun = [None] * len(script.clients)
         self.last = [0] * len(script.clients)
@@ -732,6 +743,10 @@ class Core:
     @property
     def length(self):
         return len(self.fold.entries)
+
+    @property
+    def boards(self):
+        return [kept[-1] for kept in self.kept]
 
     def has_program(self, client):
         return self.next[client] < len(self.script.clients[client].programs)
@@ -756,7 +771,7 @@ class Core:
         elif name == "r":
             server, upto = args[0] - 1, args[1]
             self.need(upto % shape.group == 0 and self.boards[server] < upto <= self.length)
-            self.boards[server] = upto
+            self.kept[server] = [*self.kept[server], upto][-self.script.keeps:]
         else:
             self.need(self.armed is None and 1 <= args[0] <= 4 and args[1] <= 2)
             self.armed = args
@@ -765,11 +780,17 @@ class Core:
     def client_event(self, name, client):
         begun = self.begun[client]
         if name == "b":
-            board = self.boards[self.server(client)]
-            self.need(begun is None and self.has_program(client) and board >= self.last[client])
+            kept = self.kept[self.server(client)]
+            self.need(begun is None and self.has_program(client) and kept[-1] >= self.last[client])
             program = self.script.clients[client].programs[self.next[client]]
-            rows = {key: value for key, _, value in self.fold.live(board)}
-            self.begun[client] = (board, execute(program, rows))
+            snap = kept[-1] if program.as_of is None else program.as_of
+            if snap < kept[0]:
+                self.finish(client, [], ("past", kept[0]))
+            elif snap > kept[-1]:
+                self.finish(client, [], ("notyet", kept[-1]))
+            else:
+                rows = {key: value for key, _, value in self.fold.live(snap)}
+                self.begun[client] = (snap, execute(program, rows))
             return
         self.need(begun is not None)
         snap, effects = begun
@@ -810,7 +831,7 @@ class Core:
         for other, begun in enumerate(self.begun):
             if begun is not None:
                 self.finish(other, [], ("lost",))
-        self.boards = [self.length // self.script.shape.group * self.script.shape.group] * self.script.servers
+        self.kept = [[self.length // self.script.shape.group * self.script.shape.group] for _ in self.kept]
         return True
 
     def tail_event(self):
@@ -873,10 +894,8 @@ def report_lines(core):
             lines += answers
             if outcome[0] == "at":
                 lines.append(verdict_line(outcome[1], core.fold.verdicts[outcome[1]]))
-            elif outcome[0] == "read":
-                lines.append(b"read %d" % outcome[1])
             else:
-                lines.append(outcome[0].encode())
+                lines.append(b" ".join([outcome[0].encode(), *(b"%d" % position for position in outcome[1:])]))
     for server, board in enumerate(core.boards):
         rows = core.fold.live(board)
         lines.append(b"server %d at %d rows %d" % (server + 1, board, len(rows)))
