@@ -203,7 +203,7 @@ module _ (of : Option ℕ) (from : ℕ) (mine : Option ℕ) (old held new : Know
 refusal_kind : (asked : Asked) (e : AppendRefusal) (before : List Occurrence) (x : Occurrence) → AppendDoes asked.client asked.number asked.entry (Err e) before (x ∷ []) → e ≢ Device → IsOwnKind x
 refusal_kind asked OutOfMemory before x does other = absurd (cc (does))
 refusal_kind asked (NotBegun who phase) before x does other = absurd (cc (does.0))
-refusal_kind asked Full before x does other = let same : x ≡ Happened (Refuse asked.client) nothing_added = cc (does.0) in subst IsOwnKind (sym same) tt
+refusal_kind asked Full before x does other = let same : x ≡ Happened (Refuse asked.client) nothing_added true = cc (does.0) in subst IsOwnKind (sym same) tt
 refusal_kind asked (Stopped at) before x does other = absurd (cc (does.0))
 refusal_kind asked Device before x does other = absurd (other refl)
 

@@ -135,7 +135,7 @@ fails_behind n front (Opened o ∷ more) last k batch order home e =
     let x = Opened o in
     let next = fails_behind (suc n) (front ++ x ∷ []) more last k batch (subst AreInOrder (sym (append_assoc front (x ∷ []) more)) order) (flight_more None front (x ∷ []) ∙ home) e in omega (arith, next)
 fails_behind n front (Happened event added ended ∷ more) last k batch order home e =
-    let x = Happened event added in
+    let x = Happened event added ended in
     let next = fails_behind (suc n) (front ++ x ∷ []) more last k batch (subst AreInOrder (sym (append_assoc front (x ∷ []) more)) order) (flight_more None front (x ∷ []) ∙ home) e in omega (arith, next)
 fails_behind n front (Halted at risen ∷ more) last k batch order home e = let halt = (order front (Halted at risen) more refl).0 in let out = halt.out in absurd (cc (home, out))
 fails_behind n front (Lifted next ∷ more) last k batch order home e = lifts_behind n (suc n) (n, next) more k batch (omega arith) (omega arith) e

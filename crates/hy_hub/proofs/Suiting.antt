@@ -12,7 +12,7 @@ use Rattle.hy_base.specs.declared.workload.Home.{Home}
 use Rattle.hy_base.specs.declared.workload.Session.{Session}
 use Rattle.hy_base.proofs.ListLemmas.{all_map, all_push}
 use Rattle.hy_rules.specs.Moves.{State}
-use Rattle.hy_rolling.specs.Rolling.{Roll}
+use Rattle.hy_hub.specs.Kept.{KeptRolls}
 use Rattle.hy_hist.proofs.Lists.{prefix_self, prefix_trans}
 use Rattle.hy_hub.specs.declared.contents.Contents.TheInside.{Inside}
 use Rattle.hy_hub.specs.declared.occurrence.Batch.{Batch}
@@ -62,7 +62,7 @@ module _ (suits : State → Event → List EntryKind → Type 0) where
   pub suits_none : AllSuit suits []
   suits_none before x after e = absurd (omega (arith, ap length e, length-append before (x ∷ after)))
 
-module _ {halt : Option ℕ} {from : ℕ} {entries : List EntryKind} {occurrences : List Occurrence} {shape : Shape} {homes : List Home} {boards : List Roll} {sessions : List Session} (hub : IsTraced halt from entries occurrences shape homes boards sessions) where
+module _ {halt : Option ℕ} {from : ℕ} {entries : List EntryKind} {occurrences : List Occurrence} {shape : Shape} {homes : List Home} {boards : List KeptRolls} {sessions : List Session} (hub : IsTraced halt from entries occurrences shape homes boards sessions) where
   pub asked_here : {tickets : List Ticket} (asked : Asked) → IsAskedOf homes sessions tickets asked → IsRunningFor asked.client asked.number asked.entry occurrences
   asked_here asked is = asked_runs hub asked is.home is.session is.home_is is.session_is (is.number_is, is.begun, is.isolation) refl
 
@@ -79,7 +79,7 @@ module _ {halt : Option ℕ} {from : ℕ} {entries : List EntryKind} {occurrence
   batch_suits suits tickets waiting (Fillers server count lifted) n m is all may = absurd is
 
 -- entries that wait land, one after another
-pub land_suits : {from : ℕ} (suits : State → Event → List EntryKind → Type 0) (entries : List EntryKind) (occurrences : List Occurrence) {shape : Shape} {homes : List Home} {boards : List Roll} (sessions : List Session) (tickets : List Ticket) (xs rest : List Asked)
+pub land_suits : {from : ℕ} (suits : State → Event → List EntryKind → Type 0) (entries : List EntryKind) (occurrences : List Occurrence) {shape : Shape} {homes : List Home} {boards : List KeptRolls} (sessions : List Session) (tickets : List Ticket) (xs rest : List Asked)
     → IsTraced None from entries occurrences shape homes boards sessions → IsQueue occurrences homes sessions (xs ++ rest) tickets → AllByRecursion (λ a. a.version ≡ shape.version) xs → length entries + length xs ≤ shape.cap → AllSuit suits occurrences → AllByRecursion (MayWait suits occurrences) (xs ++ rest)
     → AllSuit suits (occurrences ++ map asked_event xs) × AllByRecursion (MayWait suits (occurrences ++ map asked_event xs)) rest
 land_suits suits entries occurrences sessions tickets [] rest hub queue versions room all may = (subst (AllSuit suits) (sym (append-nil occurrences)) all, subst (λ (l : List Occurrence). AllByRecursion (MayWait suits l) rest) (sym (append-nil occurrences)) may)

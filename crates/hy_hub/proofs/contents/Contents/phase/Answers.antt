@@ -19,5 +19,5 @@ returns-clause-phase g c =
     let isolation = isolation_is traced c.args.client home.0 c.item.result.now home.1 x in (
       refl,
       sym (phase_here traced c.args.client c.item.result.now x (ap (λ s. s.list) c.self.view_is)),
-      λ number entry runs. entry_fits c.self.invariant.2 c.args.client c.item.result.now.next home.0 entry home.1 (sym isolation ∙ (ap (isolation_in c.args.client) (ap (λ s. s.list) c.self.view_is) ∙ runs.1)),
+      λ number entry runs. entry_fits c.self.invariant.2 c.args.client home.0 c.item.result.now entry home.1 (sym isolation ∙ (ap (isolation_in c.args.client) (ap (λ s. s.list) c.self.view_is) ∙ runs.1)),
     )
