@@ -92,7 +92,8 @@ impl Core {
         &self.script
     }
 
-    /// Moves by an event. A roll of the log takes up to 16 threads, and enters the gate once for each group.
+    /// Moves by an event. A roll of the log, for a publish, a restart or a program that asks for a position, takes up to 16
+    /// threads, and enters the gate once for each group.
     ///
     /// `NotEnabled` exactly where the event may not happen; then the core is as before. `Memory`: out of memory. Then it is as
     /// before too; but where a stop had struck it is broken: its state stays, and every further event is answered by `Memory`.

@@ -110,12 +110,7 @@ fn tree_at<R: Threads + Sync, G: Gate + Sync>(
 }
 
 // A client's next program ends before it is begun. It has no answers.
-fn turn_away(
-    alloc: Global,
-    core: &mut Parts,
-    client: u8,
-    end: ProgramEnd,
-) -> Result<(), AllocError>
+fn turn_away(alloc: Global, core: &mut Parts, client: u8, end: ProgramEnd) -> Result<(), AllocError>
     requires within { IsWithin 1 (length (log_held core.old).client_states) client }
     requires fits { NextFits (log_held core.old) client }
     ensures ok { OnOk result (TurnsAway (log_held core.old) (log_held core.new) client end) }

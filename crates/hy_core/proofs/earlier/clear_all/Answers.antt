@@ -1,4 +1,4 @@
-use Rattle.std.proofs.Common.{◌≡◌, ◌∙◌, List, [], ap, arith}
+use Rattle.std.proofs.Common.{◌∙◌, List, [], ap, arith}
 use Rattle.std.specs.Prelude.{slice_set}
 use Rattle.hy_rolling.specs.Rolling.{Roll}
 use Rattle.hy_core.proofs.Settling.{changed_next}

@@ -1,9 +1,9 @@
-use Rattle.std.proofs.Common.{◌≡◌, ◌∙◌, ◌+◌, ◌%◌, ◌≤◌, length, sym, ap, subst, arith}
+use Rattle.std.proofs.Common.{◌≡◌, ◌∙◌, ◌+◌, ◌%◌, ◌≤◌, length, sym, ap, subst}
 use Rattle.std.proofs.lemmas.Result.{IfOk-weaker}
 use Rattle.hy_base.specs.Lists.{nth}
 use Rattle.hy_rules.specs.History.{pairs_of}
 use Rattle.hy_rolling.specs.Rolling.{rolled_upto, roll_on}
-use Rattle.hy_core.specs.CoreParts.{Holding, log_held, entries_between, newest_upto}
+use Rattle.hy_core.specs.CoreParts.{Holding, log_held, entries_between}
 use Rattle.hy_core.proofs.Beginning.{can_give, declared_list, given_live, none_given, rolled_live}
 use Rattle.hy_core.proofs.Publishing.{declared_board}
 use Rattle.hy_core.proofs.starting.tree_at.Goals as goal
