@@ -19,10 +19,10 @@ use Rattle.hy_base.specs.Value.{is_value}
 use Rattle.hy_base.proofs.ShapeLemmas.{IsWithin-test}
 use Rattle.hy_script.specs.Fields.{and_then, number_field, one_number, two_numbers, three_numbers, four_numbers, number_and_text, no_fields}
 use Rattle.hy_script.specs.Forms.{is_blank}
-use Rattle.hy_script.specs.Grammar.{at_position, is_position, last_program_count}
+use Rattle.hy_script.specs.Grammar.{mode_at, is_position, last_program_count}
 use Rattle.hy_script.specs.LineParts.{IsMode}
 use Rattle.hy_script.specs.ScriptLaws.{FitsFields}
-use Rattle.hy_script.specs.ScriptFields.{begin_fields, begins_after, listing_line, mode_fields, number_within, one_more, program_line, servers_line, servers_numbers, servers_within, shape_line, shape_numbers, good_shape}
+use Rattle.hy_script.specs.ScriptFields.{begin_fields, one_more_program, listing_line, mode_fields, number_within, one_more, program_line, servers_line, servers_numbers, servers_within, shape_line, shape_numbers, good_shape}
 use Rattle.hy_script.specs.ScriptSpelling.{asked_fields, begin_words, command_words, horizon_fields, servers_words, spelled_shape, version_fields}
 use Rattle.hy_script.specs.declared.script.ToldShape.{ToldShape}
 use Rattle.hy_script.specs.declared.script.ListingLine.{ListingLine}
@@ -123,11 +123,11 @@ mode_again : (shape : Shape) → IsGoodShape shape → (isolation : Isolation) (
 mode_again shape good Serializable None asks = refl
 mode_again shape good Snapshot None asks = refl
 mode_again shape good isolation (Some pos) asks =
-    ap (λ read. and_then read (λ p. if is_position shape p then Ok (at_position p) else Err Range)) (one_again pos (omega (arith, asks.0.1, good.cap.at_most)))
-    ∙ if_so (is_position shape pos) (Ok (at_position pos)) (Err Range) (and_from (pos % shape.group == 0) (nat_le pos shape.cap) (eq-eqb (pos % shape.group) 0 asks.0.0) (le-leb pos shape.cap asks.0.1))
+    ap (λ read. and_then read (λ p. if is_position shape p then Ok (mode_at p) else Err Range)) (one_again pos (omega (arith, asks.0.1, good.cap.at_most)))
+    ∙ if_so (is_position shape pos) (Ok (mode_at pos)) (Err Range) (and_from (pos % shape.group == 0) (nat_le pos shape.cap) (eq-eqb (pos % shape.group) 0 asks.0.0) (le-leb pos shape.cap asks.0.1))
     ∙ ap (λ i. Ok (record { isolation = i; as_of = Some pos })) (sym (asks.1 refl))
 
-begins_again : (version count : ℕ) (mode : Mode) → count < 10000 → is_told version mode.isolation ≡ true → begins_after version count mode ≡ Ok (Begin mode)
+begins_again : (version count : ℕ) (mode : Mode) → count < 10000 → is_told version mode.isolation ≡ true → one_more_program version count mode ≡ Ok (Begin mode)
 begins_again version count mode room told =
     if_so (nat_lt count 10000) (if is_told version mode.isolation then Ok (Begin mode) else Err Version) (Err Count) (lt-ltb count 10000 room)
     ∙ if_so (is_told version mode.isolation) (Ok (Begin mode)) (Err Version) told
@@ -136,7 +136,7 @@ pub begin_again : (sim : Bool) (script : Workload) (mode : Mode) → IsGoodShape
     → listing_line sim script (begin_words mode) ≡ Ok (Begin mode)
 begin_again sim script mode good is room told asks =
     ap (λ t. if t && true then begin_fields script (asked_fields mode.isolation mode.as_of) else if sim && false then and_then (no_fields (asked_fields mode.isolation mode.as_of)) (λ u. Ok Schedule) else Err Word) (lt-ltb 0 (length script.clients) is)
-    ∙ ap (λ read. and_then read (begins_after script.shape.version (last_program_count script.clients))) (mode_again script.shape good mode.isolation mode.as_of asks)
+    ∙ ap (λ read. and_then read (one_more_program script.shape.version (last_program_count script.clients))) (mode_again script.shape good mode.isolation mode.as_of asks)
     ∙ begins_again script.shape.version (last_program_count script.clients) mode room told
 
 past_begin : (t : Bool) (x : Result ListingLine Why) → (if t && false then x else Ok Schedule) ≡ Ok Schedule

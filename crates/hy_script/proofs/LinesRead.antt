@@ -17,11 +17,11 @@ use Rattle.hy_base.specs.Value.{is_value}
 use Rattle.hy_base.specs.Limits.{IsServerNumber}
 use Rattle.hy_base.proofs.ShapeLemmas.{is_within-true}
 use Rattle.hy_script.specs.Fields.{and_then, one_number, two_numbers, three_numbers, four_numbers, number_and_text, no_fields}
-use Rattle.hy_script.specs.Grammar.{at_isolation, at_position, is_position, last_program_count}
+use Rattle.hy_script.specs.Grammar.{plain_mode, mode_at, is_position, last_program_count}
 use Rattle.hy_script.specs.LineParts.{IsMode}
 use Rattle.hy_base.proofs.NumberLemmas.{number_of_decimal}
 use Rattle.hy_script.specs.ScriptLaws.{FitsFields, plain}
-use Rattle.hy_script.specs.ScriptFields.{client_fields, begin_fields, begins_after, listing_line, mode_fields, number_within, one_more, position_field, program_line, put_fields, scan_fields, writing_line, servers_fields, servers_line, servers_numbers, servers_within, as_shape, good_shape, shape_fields, shape_line, shape_numbers, told_by_three, told_by_four, told_with_horizon}
+use Rattle.hy_script.specs.ScriptFields.{client_fields, begin_fields, one_more_program, listing_line, mode_fields, number_within, one_more, position_field, program_line, put_fields, scan_fields, writing_line, servers_fields, servers_line, servers_numbers, servers_within, as_shape, good_shape, shape_fields, shape_line, shape_numbers, told_by_three, told_by_four, told_with_horizon}
 use Rattle.hy_script.specs.ScriptSpelling.{asked_fields, begin_words, command_words, servers_words, spelled_shape}
 use Rattle.hy_script.specs.declared.script.ToldServers.{ToldServers}
 use Rattle.hy_script.specs.declared.script.ToldShape.{ToldShape}
@@ -184,20 +184,20 @@ AreModeFields shape fields mode = (fields ≡ asked_fields mode.isolation mode.a
 
 position_was : (shape : Shape) (a b : Text) (mode : Mode) → bytes_eq a (codes "at") ≡ true → position_field shape (b ∷ []) ≡ Ok mode → AreModeFields shape (a ∷ b ∷ []) mode
 position_was shape a b mode named e =
-    let step = and_then_was (one_number (b ∷ [])) (λ pos. if is_position shape pos then Ok (at_position pos) else Err Range) mode e in
+    let step = and_then_was (one_number (b ∷ [])) (λ pos. if is_position shape pos then Ok (mode_at pos) else Err Range) mode e in
     let pos = step.0 in
-    let tested = if_was (is_position shape pos) (Ok (at_position pos)) Range mode step.2 in
-    let same : at_position pos ≡ mode = cc (tested.1) in
+    let tested = if_was (is_position shape pos) (Ok (mode_at pos)) Range mode step.2 in
+    let same : mode_at pos ≡ mode = cc (tested.1) in
     let parts = and_parts (pos % shape.group == 0) (nat_le pos shape.cap) tested.0 in
     let was = one_was (b ∷ []) pos step.1 in
     subst (AreModeFields shape (a ∷ b ∷ [])) same (words_are a (codes "at") (b ∷ []) _ named was.0, ((eqb-true (pos % shape.group) 0 parts.0, leb-true pos shape.cap parts.1), λ asks. refl))
 
 mode_was : (shape : Shape) (fields : List Text) (mode : Mode) → mode_fields shape fields ≡ Ok mode → AreModeFields shape fields mode
 mode_was shape [] mode e =
-    let same : at_isolation Serializable ≡ mode = cc (e) in subst (AreModeFields shape []) same (refl, (tt, λ asks. refl))
+    let same : plain_mode Serializable ≡ mode = cc (e) in subst (AreModeFields shape []) same (refl, (tt, λ asks. refl))
 mode_was shape (a ∷ []) mode e =
-    let was = if_was (bytes_eq a (codes "snapshot")) (Ok (at_isolation Snapshot)) Form mode e in
-    let same : at_isolation Snapshot ≡ mode = cc (was.1) in
+    let was = if_was (bytes_eq a (codes "snapshot")) (Ok (plain_mode Snapshot)) Form mode e in
+    let same : plain_mode Snapshot ≡ mode = cc (was.1) in
     subst (AreModeFields shape (a ∷ [])) same (ap (λ w. w ∷ []) ((bytes_eq-Decides a (codes "snapshot")).0 was.0), (tt, λ asks. cc))
 mode_was shape (a ∷ b ∷ []) mode e =
     let was = if_was (bytes_eq a (codes "at")) (position_field shape (b ∷ [])) Form mode e in position_was shape a b mode was.0 was.1
@@ -206,7 +206,7 @@ mode_was shape (a ∷ b ∷ c ∷ rest) mode e = cc
 begin_was : (script : Workload) (word : Text) (fields : List Text) (read : ListingLine) → bytes_eq word (codes "begin") ≡ true → 0 < length script.clients → begin_fields script fields ≡ Ok read
     → IsListingLine script (word ∷ fields) read
 begin_was script word fields read named some e =
-    let step = and_then_was (mode_fields script.shape fields) (begins_after script.shape.version (last_program_count script.clients)) read e in
+    let step = and_then_was (mode_fields script.shape fields) (one_more_program script.shape.version (last_program_count script.clients)) read e in
     let mode = step.0 in
     let tested = if_was (nat_lt (last_program_count script.clients) 10000) (if is_told script.shape.version mode.isolation then Ok (Begin mode) else Err Version) Count read step.2 in
     let told = if_was (is_told script.shape.version mode.isolation) (Ok (Begin mode)) Version read tested.1 in

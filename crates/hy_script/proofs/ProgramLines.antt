@@ -16,9 +16,9 @@ use Rattle.hy_base.specs.Value.{is_value}
 use Rattle.hy_base.specs.Spelling.{Text, number_of}
 use Rattle.hy_script.specs.Forms.{Meaning, LineForm, OneNumber, TwoNumbers, ThreeNumbers, NumberAndText, FixedWord, judged_words, meaning_of, is_blank, read_line, read_fields}
 use Rattle.hy_script.specs.Fields.{and_then, one_number, two_numbers, three_numbers, number_and_text, no_fields}
-use Rattle.hy_script.specs.Grammar.{Place, Listing, Programming, Scheduled, client_form, begins_program, begin_forms, end_form, reading_forms, writing_forms, schedule_form, forms_at, makes, makes_if, gains, with_client, with_program, gains_command, at_isolation, at_position, begun, is_position, last_program_count}
+use Rattle.hy_script.specs.Grammar.{Place, Listing, Programming, Scheduled, client_form, begins_program, begin_forms, end_form, reading_forms, writing_forms, schedule_form, forms_at, makes, makes_if, gains, with_client, with_program, gains_command, plain_mode, mode_at, begun, is_position, last_program_count}
 use Rattle.hy_script.specs.LineParts.{leading, after_listing, after_program_line}
-use Rattle.hy_script.specs.ScriptFields.{program_line, listing_line, client_fields, begin_fields, begins_after, position_field, put_fields, scan_fields, one_more}
+use Rattle.hy_script.specs.ScriptFields.{program_line, listing_line, client_fields, begin_fields, one_more_program, position_field, put_fields, scan_fields, one_more}
 use Rattle.hy_script.specs.declared.script.ProgramLine.{ProgramLine}
 use Rattle.hy_script.specs.declared.script.ProgramLine.TheVariants.{Next, End}
 use Rattle.hy_script.specs.declared.script.ListingLine.{ListingLine}
@@ -181,7 +181,7 @@ begin_room false u script number mode = refl
 
 -- a program of this mode is begun
 abbrev begun_by : Workload → Mode → Result ListingLine Why
-begun_by script = begins_after script.shape.version (last_program_count script.clients)
+begun_by script = one_more_program script.shape.version (last_program_count script.clients)
 
 abbrev mode_tests : Bool → Workload → Mode → Meaning Place
 mode_tests p script mode = makes_if ((p, Range) ∷ (nat_lt (last_program_count script.clients) 10000, Count) ∷ (is_told script.shape.version mode.isolation, Version) ∷ []) (Programming script (begun mode))
@@ -197,20 +197,20 @@ not_blank (b ∷ a) e = absurd (omega (arith, eqb-true (length (b ∷ a)) 0 e))
 
 -- what a field that isn't blank makes
 one_word : (is : Bool) (a : Text) (script : Workload) (number : ℕ)
-    → leading (after_listing script number) (and_then (if is then Ok (at_isolation Snapshot) else Err Form) (begun_by script))
-    ≡ elim (if is then Some (FixedWord "begin" "snapshot" (begins_program script (at_isolation Snapshot))) else None) [ None ↦ Err Form | Some f ↦ option_map_or (λ m. judged_words m) (meaning_of f (a ∷ [])) (Err Number) ]
-one_word true a script number = sym (begin_tests true script number (at_isolation Snapshot))
+    → leading (after_listing script number) (and_then (if is then Ok (plain_mode Snapshot) else Err Form) (begun_by script))
+    ≡ elim (if is then Some (FixedWord "begin" "snapshot" (begins_program script (plain_mode Snapshot))) else None) [ None ↦ Err Form | Some f ↦ option_map_or (λ m. judged_words m) (meaning_of f (a ∷ [])) (Err Number) ]
+one_word true a script number = sym (begin_tests true script number (plain_mode Snapshot))
 one_word false a script number = refl
 
 blank_word : (is : Bool) (script : Workload) (number : ℕ) → is ≡ false
-    → leading (after_listing script number) (and_then (if is then Ok (at_isolation Snapshot) else Err Form) (begun_by script)) ≡ Err Form
+    → leading (after_listing script number) (and_then (if is then Ok (plain_mode Snapshot) else Err Form) (begun_by script)) ≡ Err Form
 blank_word true script number other = cc other
 blank_word false script number other = refl
 
 begin_word : (blank is : Bool) (a : Text) (script : Workload) (number : ℕ) → (blank ≡ true → is ≡ false)
-    → leading (after_listing script number) (and_then (if is then Ok (at_isolation Snapshot) else Err Form) (begun_by script))
+    → leading (after_listing script number) (and_then (if is then Ok (plain_mode Snapshot) else Err Form) (begun_by script))
     ≡ (if blank || false then Err Form
-    else elim (if is then Some (FixedWord "begin" "snapshot" (begins_program script (at_isolation Snapshot))) else None) [ None ↦ Err Form | Some f ↦ option_map_or (λ m. judged_words m) (meaning_of f (a ∷ [])) (Err Number) ])
+    else elim (if is then Some (FixedWord "begin" "snapshot" (begins_program script (plain_mode Snapshot))) else None) [ None ↦ Err Form | Some f ↦ option_map_or (λ m. judged_words m) (meaning_of f (a ∷ [])) (Err Number) ])
 begin_word true is a script number blanks = blank_word is script number (blanks refl)
 begin_word false is a script number blanks = one_word is a script number
 
@@ -218,9 +218,9 @@ begin_word false is a script number blanks = one_word is a script number
 position_read : (number : ℕ) (script : Workload) (b : Text) → leading (after_listing script number) (begin_fields script (codes "at" ∷ b ∷ [])) ≡ read_fields (begin_forms script) (codes "at" ∷ b ∷ [])
 position_read number script b =
     let read = one_number (b ∷ []) in
-    let ranged : ℕ → Result Mode Why = λ pos. if is_position script.shape pos then Ok (at_position pos) else Err Range in
-    sym (one_field (is_blank b) (λ pos. begins_program script (at_position pos)) (number_of b)
-    ∙ over (after_listing script number) read (λ pos. begins_program script (at_position pos)) (λ pos. and_then (ranged pos) (begun_by script)) (λ pos. begin_tests (is_position script.shape pos) script number (at_position pos))
+    let ranged : ℕ → Result Mode Why = λ pos. if is_position script.shape pos then Ok (mode_at pos) else Err Range in
+    sym (one_field (is_blank b) (λ pos. begins_program script (mode_at pos)) (number_of b)
+    ∙ over (after_listing script number) read (λ pos. begins_program script (mode_at pos)) (λ pos. and_then (ranged pos) (begun_by script)) (λ pos. begin_tests (is_position script.shape pos) script number (mode_at pos))
     ∙ ap (leading (after_listing script number)) (joined read ranged (begun_by script)))
 
 two_words : (is : Bool) (number : ℕ) (script : Workload) (a b : Text) → bytes_eq a (codes "at") ≡ is → leading (after_listing script number) (begin_fields script (a ∷ b ∷ [])) ≡ read_fields (begin_forms script) (a ∷ b ∷ [])
@@ -231,7 +231,7 @@ two_words false number script a b is =
     ∙ sym (no_form (begin_forms script) (a ∷ b ∷ []) (refl, (refl, (is, tt))))
 
 begin_forms_read : (number : ℕ) (script : Workload) (fields : List Text) → leading (after_listing script number) (begin_fields script fields) ≡ read_fields (begin_forms script) fields
-begin_forms_read number script [] = sym (begin_tests true script number (at_isolation Serializable))
+begin_forms_read number script [] = sym (begin_tests true script number (plain_mode Serializable))
 begin_forms_read number script (a ∷ []) = begin_word (is_blank a) (bytes_eq a (codes "snapshot")) a script number (not_blank a)
 begin_forms_read number script (a ∷ b ∷ []) = two_words (bytes_eq a (codes "at")) number script a b refl
 begin_forms_read number script (a ∷ b ∷ c ∷ rest) =

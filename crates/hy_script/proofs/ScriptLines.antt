@@ -12,7 +12,7 @@ use Rattle.hy_script.specs.Forms.{is_blank, judged_words, read_fields, read_line
 use Rattle.hy_script.specs.Fields.{and_then, one_number, no_fields}
 use Rattle.hy_script.specs.Grammar.{Place, Shaped, Listing, last_program_count, forms_at, makes_if, served, servers_forms}
 use Rattle.hy_script.specs.LineParts.{leading}
-use Rattle.hy_script.specs.ScriptFields.{servers_line, servers_numbers, servers_within, begin_fields, begins_after, mode_fields, position_field, listing_line}
+use Rattle.hy_script.specs.ScriptFields.{servers_line, servers_numbers, servers_within, begin_fields, one_more_program, mode_fields, position_field, listing_line}
 use Rattle.hy_base.specs.declared.workload.Mode.{Mode}
 use Rattle.hy_script.specs.declared.script.ToldServers.{ToldServers}
 use Rattle.hy_script.specs.declared.script.ListingLine.{ListingLine}
@@ -77,12 +77,12 @@ last_count (c ∷ e ∷ cs) d some =
 -- a further program of the last client is read as its line is
 pub begin_listed : (sim : Bool) (script : Workload) (last : Client) (words rest : List Text) (word : Text) (read : Result ListingLine Why)
     → words ≡ word ∷ rest → bytes_eq word (codes "begin") ≡ true → nat_lt 0 (length script.clients) ≡ true → last_program_count script.clients ≡ length last.programs
-    → read ≡ and_then (mode_fields script.shape rest) (begins_after script.shape.version (length last.programs))
+    → read ≡ and_then (mode_fields script.shape rest) (one_more_program script.shape.version (length last.programs))
     → read ≡ listing_line sim script words
 begin_listed sim script last words rest word read split named some count is =
     let begins : listing_line sim script (codes "begin" ∷ rest) ≡ begin_fields script rest = ap (λ t. if t && true then begin_fields script rest else if sim && false then and_then (no_fields rest) (λ u. Ok Schedule) else Err Word) some in
-    let counted : begin_fields script rest ≡ and_then (mode_fields script.shape rest) (begins_after script.shape.version (length last.programs)) =
-    ap (λ n. and_then (mode_fields script.shape rest) (begins_after script.shape.version n)) count in
+    let counted : begin_fields script rest ≡ and_then (mode_fields script.shape rest) (one_more_program script.shape.version (length last.programs)) =
+    ap (λ n. and_then (mode_fields script.shape rest) (one_more_program script.shape.version n)) count in
     is ∙ sym (ap (listing_line sim script) (split ∙ ap (λ w. w ∷ rest) ((bytes_eq-Decides word (codes "begin")).0 named)) ∙ begins ∙ counted)
 
 -- there is a client, and this is the last one

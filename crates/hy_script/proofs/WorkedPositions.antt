@@ -7,7 +7,7 @@ use Rattle.hy_base.specs.declared.workload.Client.{Client}
 use Rattle.hy_base.specs.declared.workload.Command.TheVariants.{Get, Scan}
 use Rattle.hy_base.specs.declared.workload.Program.{Program}
 use Rattle.hy_base.specs.Script.{Workload}
-use Rattle.hy_script.specs.Grammar.{Shaped, Listing, Programming, at_position, begun, gains_command, last_program_count, with_program}
+use Rattle.hy_script.specs.Grammar.{Shaped, Listing, Programming, mode_at, begun, gains_command, last_program_count, with_program}
 use Rattle.hy_script.specs.ScriptReading.{place_after}
 use Rattle.hy_script.specs.declared.why.Why.TheVariants.{Word, Form, Number, Range, Order, Count}
 
@@ -70,15 +70,15 @@ no_servers = refl
 abbrev listed : Workload
 listed = keeping 1 2 (record { server = 1; programs = [] } ∷ [])
 
-asks : place_after false (Listing listed) (4, codes "begin at 4") ≡ Ok (Programming listed (begun (at_position 4)))
+asks : place_after false (Listing listed) (4, codes "begin at 4") ≡ Ok (Programming listed (begun (mode_at 4)))
 unfolding digits
 asks = refl
 
-asks_for_the_start : place_after false (Listing listed) (4, codes "begin at 0") ≡ Ok (Programming listed (begun (at_position 0)))
+asks_for_the_start : place_after false (Listing listed) (4, codes "begin at 0") ≡ Ok (Programming listed (begun (mode_at 0)))
 unfolding digits
 asks_for_the_start = refl
 
-asks_for_the_cap : place_after false (Listing listed) (4, codes "begin at 8") ≡ Ok (Programming listed (begun (at_position 8)))
+asks_for_the_cap : place_after false (Listing listed) (4, codes "begin at 8") ≡ Ok (Programming listed (begun (mode_at 8)))
 unfolding digits
 asks_for_the_cap = refl
 
@@ -134,7 +134,7 @@ within_a_group_first clients some = rw some refl
 -- a program that asks for a position only reads
 
 abbrev asking : Program
-asking = begun (at_position 4)
+asking = begun (mode_at 4)
 
 gets : place_after false (Programming listed asking) (5, codes "get 1") ≡ Ok (Programming listed (gains_command (Get 1) asking))
 unfolding digits

@@ -4,7 +4,7 @@ use Rattle.std.specs.Fmt.{digits}
 use Rattle.std.specs.Prelude.{Option, Some, None, Ok, Err, codes}
 use Rattle.hy_base.specs.declared.record.Isolation.TheVariants.{Serializable, Snapshot}
 use Rattle.hy_base.specs.Script.{Workload}
-use Rattle.hy_script.specs.Grammar.{AtStart, Shaped, Listing, Programming, at_isolation, begun, last_program_count}
+use Rattle.hy_script.specs.Grammar.{AtStart, Shaped, Listing, Programming, plain_mode, begun, last_program_count}
 use Rattle.hy_script.specs.ScriptReading.{place_after}
 use Rattle.hy_script.specs.declared.why.Why.TheVariants.{Word, Form, Number, Range, Count, Version}
 
@@ -103,13 +103,13 @@ other_number_first = refl
 
 -- isolations
 
-begins_snapshot : place_after false (Listing (of_version 2)) (4, codes "begin snapshot") ≡ Ok (Programming (of_version 2) (begun (at_isolation Snapshot)))
+begins_snapshot : place_after false (Listing (of_version 2)) (4, codes "begin snapshot") ≡ Ok (Programming (of_version 2) (begun (plain_mode Snapshot)))
 begins_snapshot = refl
 
-begins : place_after false (Listing (of_version 2)) (4, codes "begin") ≡ Ok (Programming (of_version 2) (begun (at_isolation Serializable)))
+begins : place_after false (Listing (of_version 2)) (4, codes "begin") ≡ Ok (Programming (of_version 2) (begun (plain_mode Serializable)))
 begins = refl
 
-begins_snapshot_later : place_after false (Listing (with_horizon 3 (Some 9))) (4, codes "begin snapshot") ≡ Ok (Programming (with_horizon 3 (Some 9)) (begun (at_isolation Snapshot)))
+begins_snapshot_later : place_after false (Listing (with_horizon 3 (Some 9))) (4, codes "begin snapshot") ≡ Ok (Programming (with_horizon 3 (Some 9)) (begun (plain_mode Snapshot)))
 begins_snapshot_later = refl
 
 early : place_after false (Listing (of_version 1)) (4, codes "begin snapshot") ≡ Err Version

@@ -66,11 +66,11 @@ abbrev pub begun : Mode → Program
 begun mode = record { isolation = mode.isolation; as_of = mode.as_of; commands = [] }
 
 -- what is asked for by a program without a position, and by one with a position
-abbrev pub at_isolation : Isolation → Mode
-at_isolation isolation = record { isolation = isolation; as_of = None }
+abbrev pub plain_mode : Isolation → Mode
+plain_mode isolation = record { isolation = isolation; as_of = None }
 
-abbrev pub at_position : ℕ → Mode
-at_position pos = record { isolation = Serializable; as_of = Some pos }
+abbrev pub mode_at : ℕ → Mode
+mode_at pos = record { isolation = Serializable; as_of = Some pos }
 
 -- a position that a program may ask for is the end of a group, and one that the log may have
 abbrev pub is_position : Shape → ℕ → Bool
@@ -120,9 +120,9 @@ begins_program script mode =
 -- begin, begin snapshot, and begin at Q
 abbrev pub begin_forms : Workload → List (LineForm Place)
 begin_forms script =
-    Alone "begin" (begins_program script (at_isolation Serializable))
-    ∷ FixedWord "begin" "snapshot" (begins_program script (at_isolation Snapshot))
-    ∷ WordAndNumber "begin" "at" (λ pos. begins_program script (at_position pos))
+    Alone "begin" (begins_program script (plain_mode Serializable))
+    ∷ FixedWord "begin" "snapshot" (begins_program script (plain_mode Snapshot))
+    ∷ WordAndNumber "begin" "at" (λ pos. begins_program script (mode_at pos))
     ∷ []
 
 -- end

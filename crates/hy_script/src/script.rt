@@ -6,13 +6,13 @@ ghost use Rattle.hy_base.specs.Script.{IsCommand, IsReading, client_count};
 ghost use Rattle.hy_base.specs.Shape.{IsGoodShape, IsWithin};
 ghost use Rattle.hy_script.specs.Fields.{HasFields, and_then, one_number, two_numbers, three_numbers, four_numbers, no_fields};
 ghost use Rattle.hy_script.specs.LineParts.{IsClientListed, IsMode, IsNextLine};
-ghost use Rattle.hy_script.specs.ScriptFields.{shape_fields, shape_numbers, good_shape, told_by_three, told_by_four, told_with_horizon, servers_fields, servers_line, servers_numbers, position_field, mode_fields, begins_after, scan_fields, ValueOf, shape_line, number_within, client_fields, listing_line, one_more, put_fields, writing_line, program_line, TellsField};
+ghost use Rattle.hy_script.specs.ScriptFields.{shape_fields, shape_numbers, good_shape, told_by_three, told_by_four, told_with_horizon, servers_fields, servers_line, servers_numbers, position_field, mode_fields, one_more_program, scan_fields, ValueOf, shape_line, number_within, client_fields, listing_line, one_more, put_fields, writing_line, program_line, TellsField};
 ghost use Rattle.hy_script.specs.Lines.{words_of};
 ghost use Rattle.hy_base.specs.declared.workload.Command.TheVariants.{Get, Del, Add};
 ghost use Rattle.hy_base.specs.Limits.{IsServerNumber};
 ghost use Rattle.hy_script.specs.declared.script.ListingLine.TheVariants.{Begin, Schedule};
 ghost use Rattle.hy_script.specs.declared.script.ProgramLine.TheVariants.{End};
-ghost use Rattle.hy_script.specs.Grammar.{at_isolation};
+ghost use Rattle.hy_script.specs.Grammar.{plain_mode};
 
 use crate::Why;
 use crate::words::{
@@ -275,7 +275,7 @@ fn position_of(shape: Shape, fields: Fields<'_>) -> Result<Mode, Why>
 
 // A program that asks for no position.
 fn plain_mode(isolation: Isolation) -> Mode
-    ensures { result ≡ at_isolation isolation }
+    ensures { result ≡ plain_mode isolation }
 {
     Mode {
         isolation,
@@ -318,8 +318,8 @@ fn is_told(version: u8, isolation: Isolation) -> bool
 }
 
 // A program that asks for this, after so many of its client.
-fn begins_after(version: u8, count: usize, mode: Mode) -> Result<ListingLine, Why>
-    ensures exact { result ≡ begins_after version count mode }
+fn one_more_program(version: u8, count: usize, mode: Mode) -> Result<ListingLine, Why>
+    ensures exact { result ≡ one_more_program version count mode }
     ensures fits { IfOk result (λ l. (l ≡ Begin mode) × (count < 10000) × (is_told version mode.isolation ≡ true)) }
 {
     if count < 10000 {
@@ -335,11 +335,11 @@ fn begins_after(version: u8, count: usize, mode: Mode) -> Result<ListingLine, Wh
 
 fn begin_of(shape: Shape, last: &Client, fields: Fields<'_>) -> Result<ListingLine, Why>
     requires { 0 < shape.group }
-    ensures exact { (words : List (List ℕ)) → HasFields fields.entry words → result ≡ and_then (mode_fields shape words) (begins_after shape.version (length last.now.programs)) }
+    ensures exact { (words : List (List ℕ)) → HasFields fields.entry words → result ≡ and_then (mode_fields shape words) (one_more_program shape.version (length last.now.programs)) }
     ensures fits { IfOk result (λ l. (mode : Mode) × (l ≡ Begin mode) × (length last.now.programs < 10000) × (is_told shape.version mode.isolation ≡ true) × IsMode shape mode) }
 {
     let mode = mode_of(shape, fields)?;
-    begins_after(shape.version, last.programs.len(), mode)
+    one_more_program(shape.version, last.programs.len(), mode)
 }
 
 fn schedule_of(fields: Fields<'_>) -> Result<ListingLine, Why>
