@@ -15,10 +15,10 @@ use Rattle.hy_hub.specs.Initial.{IsInitial}
 use Rattle.hy_hub.proofs.Pasts.{since_weaker, stood_now}
 use Rattle.hy_clients.specs.Finished.{header_for}
 
-header_is : {D : Type 0} {tells : Bool} {log : LogView D} {entries : List EntryKind} {start : Roll} {servers : ℕ} {homes : List Home} (script : Workload) → IsInitial tells log entries start servers homes → start.shape ≡ script.shape → header_of log ≡ header_for script log.from
+header_is : {D : Type 0} {tells : Bool} {log : LogView D} {entries : List EntryKind} {start : Roll} {servers : ℕ} {homes : List Home} {keeps : ℕ} (script : Workload) → IsInitial tells log entries start servers homes keeps → start.shape ≡ script.shape → header_of log ≡ header_for script log.from
 header_is {D} {tells} {log} script initial same = λ i. record { shape = (initial.shape ∙ same) i; from = log.from }
 
-module _ {D : Type 0} {moment : D → ℕ} {left_since : D → ℕ → List ℕ → Type 0} {at : ℕ} {left : ℕ → List ℕ → Type 0} {tells : Bool} {log : LogView D} {entries : List EntryKind} {start : Roll} {servers : ℕ} {homes : List Home} (script : Workload) (initial : IsInitial tells log entries start servers homes) (same : start.shape ≡ script.shape) where
+module _ {D : Type 0} {moment : D → ℕ} {left_since : D → ℕ → List ℕ → Type 0} {at : ℕ} {left : ℕ → List ℕ → Type 0} {tells : Bool} {log : LogView D} {entries : List EntryKind} {start : Roll} {servers : ℕ} {homes : List Home} {keeps : ℕ} (script : Workload) (initial : IsInitial tells log entries start servers homes keeps) (same : start.shape ≡ script.shape) where
   -- of the log as it is given
   pub first_past : (IsTrue tells → LeavesSince moment left_since at left log.disk (Holds (header_of log) log.bodies)) → IsTrue tells → LeavesSince moment left_since at left log.disk (HasStood (header_for script log.from) (length entries) entries [])
   first_past since t = since_weaker

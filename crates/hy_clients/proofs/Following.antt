@@ -76,12 +76,12 @@ module _ (suits : State → Event → List EntryKind → Type 0) (script : Workl
   walk first (Landed ∷ rest) on =
       let led = led_more w start first (Landed ∷ []) in
       subst (λ (z : State). AreFit script (swapped head z) rest) led (walk (first ++ Landed ∷ []) rest (step first Landed rest (at first) (sym led) on.split on.moves on.calm on.low))
-  walk first (Happened event added ∷ rest) on =
-      let x = Happened event added in
+  walk first (Happened event added ended ∷ rest) on =
+      let x = Happened event added ended in
       let s : State = at first in
       let next : State = after w s event added.entries in
       let led : at (first ++ x ∷ []) ≡ next = led_more w start first (x ∷ []) in
-      let further = step first x rest next (sym led) on.split on.moves.2 (unarmed w s event added.entries on.calm on.moves.1) (longer w head s event added.entries on.low on.calm) in (
+      let further = step first x rest next (sym led) on.split on.moves.3 (unarmed w s event added.entries on.calm on.moves.1) (longer w head s event added.entries on.low on.calm) in (
         fits_by s event added.entries (subst (λ (z : State). SuitsIn suits z event added.entries) (here first) (all (Opened o ∷ first) x rest (is.told.begins ∙ ap (λ (l : List Occurrence). Opened o ∷ l) on.split))) on.low on.moves.0 on.moves.1 on.calm,
         subst (λ (z : State). AreFit script z rest) (ap (swapped head) led ∙ blind_after w head s event added.entries on.low) (walk (first ++ x ∷ []) rest further),
       )

@@ -13,14 +13,14 @@ pub returns-in_default-clause-cut : goal.returns-in_default-clause-cut
 returns-in_default-clause-cut g c =
     let script = c.args.script.now in
     let log = c.args.log in
-    let cut = initial_cut g.D.Disk.tells g.D.Disk.content (LeavesSince g.D.Disk.moment g.D.Disk.left_since g.B.Since.moment g.B.Since.left) log log c.args.entries.items c.args.start script.servers (setting_of script).homes script c.requires.opens c.requires.shape refl refl c.requires.opens.running refl (λ t. refl) (λ t. first_past script c.requires.opens c.requires.shape c.requires.since t) in
+    let cut = initial_cut g.D.Disk.tells g.D.Disk.content (LeavesSince g.D.Disk.moment g.D.Disk.left_since g.B.Since.moment g.B.Since.left) log log c.args.entries.items c.args.start script.servers (setting_of script).homes script.keeps script c.requires.opens c.requires.shape refl refl c.requires.opens.running refl (λ t. refl) (λ t. first_past script c.requires.opens c.requires.shape c.requires.since t) in
     subst (IsCutShort g.D.Disk.tells g.D.Disk.content (LeavesSince g.D.Disk.moment g.D.Disk.left_since g.B.Since.moment g.B.Since.left) script c.args.log.from c.args.entries.items c.args.start) (sym c.break_off.ensures.log) cut
 
 pub returns-in-Err-clause-cut : goal.returns-in-Err-clause-cut
 returns-in-Err-clause-cut g c =
     let script = c.args.script.now in
     let m = c.in-Err.ensures in
-    let cut = initial_cut g.D.Disk.tells g.D.Disk.content (LeavesSince g.D.Disk.moment g.D.Disk.left_since g.B.Since.moment g.B.Since.left) c.args.log c.in-Err.log c.args.entries.items c.args.start script.servers (setting_of script).homes script c.requires.opens c.requires.shape m.memory.0 m.cut m.memory.1 m.count m.bodies (λ t. back_past script c.requires.opens c.requires.shape c.requires.least (m.past t)) in
+    let cut = initial_cut g.D.Disk.tells g.D.Disk.content (LeavesSince g.D.Disk.moment g.D.Disk.left_since g.B.Since.moment g.B.Since.left) c.args.log c.in-Err.log c.args.entries.items c.args.start script.servers (setting_of script).homes script.keeps script c.requires.opens c.requires.shape m.memory.0 m.cut m.memory.1 m.count m.bodies (λ t. back_past script c.requires.opens c.requires.shape c.requires.least (m.past t)) in
     subst (IsCutShort g.D.Disk.tells g.D.Disk.content (LeavesSince g.D.Disk.moment g.D.Disk.left_since g.B.Since.moment g.B.Since.left) script c.args.log.from c.args.entries.items c.args.start) (sym c.break_off-in-Err.ensures.log) cut
 
 -- the pass of a hub that was just made has seen its opening, which is of the script
@@ -31,7 +31,7 @@ run_on-requires-clause-pass g c κs within =
     record {
       idle = made.hub.1;
       told = made.told;
-      setting_is = ap setting_in seen ∙ (λ i. record { shape = c.requires.shape i; servers = c.servers.ensures.servers i; homes = c.in-Ok.ensures i });
+      setting_is = ap setting_in seen ∙ (λ i. record { shape = c.requires.shape i; servers = c.servers.ensures.servers i; keeps = c.keeps.ensures.keeps i; homes = c.in-Ok.ensures i });
       takes = λ s event added fits. c.requires.takes s event added (λ front stands. fits front (subst (λ (l : List Occurrence). OpensBehind l front) (sym seen) stands));
     }
 
