@@ -8,15 +8,15 @@ use Rattle.hy_base.specs.declared.workload.Event.TheVariants.{Publish}
 use Rattle.hy_base.specs.Shape.{IsWithin}
 use Rattle.hy_base.specs.Lists.{nth, change_nth}
 use Rattle.hy_base.specs.Script.{Workload, IsScript}
-use Rattle.hy_base.proofs.NthLemmas.{nth_within, map_change, length_change, all_nth}
+use Rattle.hy_base.proofs.NthLemmas.{nth_some, map_change, length_change, all_nth}
 use Rattle.hy_rolling.specs.Rolling.{Roll, rolled_upto, roll_on}
 use Rattle.hy_rules.specs.Moves.{State, board_of, is_declared, ends_whole_group, keeping}
 use Rattle.hy_rules.specs.Runs.{setting_of, may_happen}
-use Rattle.hy_core.specs.CoreParts.{Holding, IsHolding, IsServerBoard, StepsTo, entries_between, furthest, keeping_rolls, state_in_course, done_of}
+use Rattle.hy_core.specs.CoreParts.{Holding, IsHolding, IsServerBoard, MovesOn, RolledBoard, StepsTo, entries_between, furthest, keeping_rolls, moving_on, state_in_course, done_of}
 use Rattle.hy_core.proofs.Beginning.{board_is}
 use Rattle.hy_core.proofs.Kept.{all_keeping, keeping_is}
 use Rattle.hy_core.proofs.Publishing.{all_change, server_is}
-use Rattle.hy_core.proofs.Rerolls.{RolledBoard, RollsTo, rolled_board, rolls_to}
+use Rattle.hy_core.proofs.Rerolls.{RollsTo, rolled_board, rolls_to}
 
 pub record MayPublish (script : Workload) (h : Holding) (server upto : ℕ) : Type 0 where
   pub declared : IsWithin 1 script.servers server
@@ -68,11 +68,10 @@ pub record CanRoll (script : Workload) (h : Holding) (server upto : ℕ) (r : Ro
   pub within : upto ≤ length h.log
   pub whole : length (entries_between h.log (rolled_upto r) upto) % r.shape.group ≡ 0
   pub room : rolled_upto r + length (entries_between h.log (rolled_upto r) upto) ≤ r.shape.cap
-  pub place : IsWithin 1 (length h.rollers) server
-  pub list : IsWithin 1 (length h.earlier) server
+  pub goes_on : (rolled : Roll) → rolled ≡ roll_on r (entries_between h.log (rolled_upto r) upto) → RolledBoard script h.log rolled upto
 
-pub can_roll : (script : Workload) (h : Holding) (server upto : ℕ) (own r : Roll) → IsHolding script h → may_happen script (state_in_course h) (Publish server upto) ≡ true → nth h.rollers server ≡ Some own → r ≡ furthest upto own h.rollers → CanRoll script h server upto r
-can_roll script h server upto own r is may at far =
+pub can_roll : (script : Workload) (h : Holding) (server upto : ℕ) (own r : Roll) → IsScript script → IsHolding script h → may_happen script (state_in_course h) (Publish server upto) ≡ true → nth h.rollers server ≡ Some own → r ≡ furthest upto own h.rollers → CanRoll script h server upto r
+can_roll script h server upto own r script_is is may at far =
     let m : MayPublish script h server upto = may_publish script h server upto may in
     let above : rolled_upto own < upto = subst (λ n. n < upto) (board_is h server own at) m.above in
     let low : rolled_upto r ≤ upto = subst (λ x. rolled_upto x ≤ upto) (sym far) (furthest_low upto own h.rollers (omega (arith, above))) in
@@ -84,22 +83,31 @@ can_roll script h server upto own r is may at far =
       within = m.within;
       whole = rolls.whole;
       room = rolls.room;
-      place = nth_within h.rollers server own at;
-      list = record { at_least = m.declared.at_least; at_most = omega (arith, m.declared.at_most, is.lists) };
+      goes_on = λ rolled rolls_on. rolled_board script h.log r rolled upto script_is is.lawful b low m.within m.whole rolls_on;
     }
 
 -- ---- the event
 
--- the parts after it
-abbrev pub published : Holding → ℕ → ℕ → Roll → Roll → Holding
-published h server keeps own rolled = record h { rollers = change_nth (λ _. rolled) h.rollers server; earlier = change_nth (keeping_rolls keeps own) h.earlier server }
+-- the server's board, as the rules name it, and its list
+pub record CanMoveOn (script : Workload) (h : Holding) (server : ℕ) : Type 0 where
+  pub place : IsWithin 1 (length h.rollers) server
+  pub list : IsWithin 1 (length h.earlier) server
 
-pub publish_steps : (script : Workload) (h new : Holding) (server upto : ℕ) (own r rolled : Roll) → IsScript script → IsHolding script h → may_happen script (state_in_course h) (Publish server upto) ≡ true → nth h.rollers server ≡ Some own → CanRoll script h server upto r
-    → rolled ≡ roll_on r (entries_between h.log (rolled_upto r) upto) → new ≡ published h server script.keeps own rolled → StepsTo script h new (Publish server upto)
-publish_steps script h new server upto own r rolled script_is is may at can rolls is_new =
+pub can_move_on : (script : Workload) (h : Holding) (server upto : ℕ) → IsHolding script h → may_happen script (state_in_course h) (Publish server upto) ≡ true → CanMoveOn script h server
+can_move_on script h server upto is may =
     let m : MayPublish script h server upto = may_publish script h server upto may in
-    let on : RolledBoard script h.log rolled upto = rolled_board script h.log r rolled upto script_is is.lawful can.board can.order m.within m.whole rolls in
-    let steps : StepsTo script h (published h server script.keeps own rolled) (Publish server upto) = record {
+    record {
+      place = record { at_least = m.declared.at_least; at_most = omega (arith, m.declared.at_most, is.servers) };
+      list = record { at_least = m.declared.at_least; at_most = omega (arith, m.declared.at_most, is.lists) };
+    }
+
+pub publish_steps : (script : Workload) (h new : Holding) (server upto : ℕ) (rolled : Roll) → IsHolding script h → may_happen script (state_in_course h) (Publish server upto) ≡ true → RolledBoard script h.log rolled upto → MovesOn h new server script.keeps rolled
+    → StepsTo script h new (Publish server upto)
+publish_steps script h new server upto rolled is may on moves =
+    let there : (r : Roll) × (nth h.rollers server ≡ Some r) = nth_some h.rollers server (can_move_on script h server upto is may).place in
+    let own : Roll = there.0 in
+    let at : nth h.rollers server ≡ Some own = there.1 in
+    let steps : StepsTo script h (moving_on h server script.keeps own rolled) (Publish server upto) = record {
       holding = record {
         stored = is.stored;
         armed = is.armed;
@@ -115,4 +123,4 @@ publish_steps script h new server upto own r rolled script_is is may at can roll
       ends = sym (append-nil (done_of h));
       whole = refl;
     } in
-    subst (λ k. StepsTo script h k (Publish server upto)) (sym is_new) steps
+    subst (λ k. StepsTo script h k (Publish server upto)) (sym (moves own at)) steps

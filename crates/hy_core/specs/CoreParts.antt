@@ -101,6 +101,11 @@ pub record IsServerBoard (script : Workload) (log : List EntryKind) (r : Roll) :
   pub within : rolled_upto r ≤ length log
   pub stands : Stands (take (rolled_upto r) log) r
 
+-- a board that has gone on to a position
+pub record RolledBoard (script : Workload) (log : List EntryKind) (rolled : Roll) (upto : ℕ) : Type 0 where
+  pub board : IsServerBoard script log rolled
+  pub at : rolled_upto rolled ≡ upto
+
 -- a program that ended, with the answers that it was given
 pub record IsStepAnswered (script : Workload) (log : List EntryKind) (t : EndedProgram) : Type 0 where
   pub within : t.snap ≤ length log
@@ -241,6 +246,13 @@ kept_rollers h server = option_to_list (nth h.rollers server) ++ unwrap_or (nth 
 -- A server that keeps so many boards moves on: the board before is the first of the earlier ones.
 abbrev pub keeping_rolls : ℕ → Roll → List Roll → List Roll
 keeping_rolls keeps board older = take (keeps - 1) (board ∷ older)
+
+-- its board is this roller then
+abbrev pub moving_on : Holding → ℕ → ℕ → Roll → Roll → Holding
+moving_on h server keeps own rolled = record h { rollers = change_nth (λ _. rolled) h.rollers server; earlier = change_nth (keeping_rolls keeps own) h.earlier server }
+
+abbrev pub MovesOn : Holding → Holding → ℕ → ℕ → Roll → Type 0
+MovesOn old new server keeps rolled = (own : Roll) → nth old.rollers server ≡ Some own → new ≡ moving_on old server keeps own rolled
 
 -- of a roller and of these, the furthest that hasn't passed a position
 abbrev pub furthest : ℕ → Roll → List Roll → Roll
