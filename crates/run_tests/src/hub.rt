@@ -8,7 +8,7 @@ use crate::calls::empty;
 use crate::courses::course_of;
 use crate::slow_disk::SlowDisk;
 use hy_base::{
-    Entry, Event, Home, Intention, Isolation, Isolations, Phase, Points, Pos, Shape, Spans, Value,
+    Entry, Event, Home, Intention, Isolation, Mode, Modes, Phase, Points, Pos, Shape, Spans, Value,
     Verdict, Write, Writes,
 };
 use hy_disk::{Disk, Tuned};
@@ -46,10 +46,14 @@ pub fn open_on<D: Disk + Drop>(alloc: Global, disk: D, shape: Shape) -> Result<P
 fn home_at(alloc: Global, server: u8) -> Result<Home, AllocError>
     ensures { IfOk result (λ home. home ≡ home_at server) }
 {
-    let programs = vec![in alloc; Isolation::Serializable; 3]?;
+    let plain = Mode {
+        isolation: Isolation::Serializable,
+        as_of: None,
+    };
+    let programs = vec![in alloc; plain; 3]?;
     Ok(Home {
         server,
-        programs: Isolations::from_vec(programs),
+        programs: Modes::from_vec(programs),
     })
 }
 
@@ -80,7 +84,7 @@ pub fn hub_on<D: Disk + Drop, B: Since>(
 {
     let homes = homes(alloc)?;
     let start = Roller::new(alloc, shape)?;
-    match Hub::new(alloc, log, Vec::new(alloc), start, 2, homes) {
+    match Hub::new(alloc, log, Vec::new(alloc), start, 2, homes, 1) {
         Ok(made) => Ok(made),
         Err(_) => Err(Fail::from(AllocError)),
     }
