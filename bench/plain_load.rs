@@ -1,8 +1,10 @@
 // What `hyder load` does, as a plain Rust program: the same words, programs, schedule and rules, and the same summary.
-// Each of the four servers keeps its own state and judges the whole log by itself. Nothing here is proved.
+// Each of the four servers keeps its own state and judges the whole log by itself. With `once` the log is judged once for
+// all of them, as a simulated run does: of each key the rows are kept that some board shows. Nothing here is proved.
 //
-//     plain_load SEED SIZE
+//     plain_load SEED SIZE [once]
 
+use std::collections::btree_map::Entry as Slot;
 use std::collections::{BTreeMap, VecDeque};
 use std::rc::Rc;
 
@@ -134,25 +136,155 @@ struct Row {
     value: Value,
 }
 
-// A server's state at its board, and the rows at the premeld base of the next group.
-#[derive(Default)]
-struct Server {
+// What is kept of a key: its newest row, and what a board needs of those before it.
+trait Kept {
+    fn first(row: Row) -> Self;
+    // Adds a row. No board is below `least`.
+    fn put(&mut self, row: Row, least: Pos);
+    fn newest(&self) -> &Row;
+    fn at(&self, board: Pos) -> Option<&Row>;
+}
+
+impl Kept for Row {
+    fn first(row: Row) -> Row {
+        row
+    }
+
+    fn put(&mut self, row: Row, _: Pos) {
+        *self = row;
+    }
+
+    fn newest(&self) -> &Row {
+        self
+    }
+
+    fn at(&self, _: Pos) -> Option<&Row> {
+        Some(self)
+    }
+}
+
+// The rows of a key, the newest last.
+struct Rows(Vec<Row>);
+
+impl Kept for Rows {
+    fn first(row: Row) -> Rows {
+        Rows(vec![row])
+    }
+
+    fn put(&mut self, row: Row, least: Pos) {
+        let shown = self.0.iter().rposition(|it| it.writer <= least);
+        self.0.drain(..shown.unwrap_or(0));
+        self.0.push(row);
+    }
+
+    fn newest(&self) -> &Row {
+        self.0.last().unwrap()
+    }
+
+    fn at(&self, board: Pos) -> Option<&Row> {
+        self.0.iter().rev().find(|row| row.writer <= board)
+    }
+}
+
+// The state up to a position, and the writers at the premeld base of the next group.
+struct State<K> {
     board: Pos,
-    rows: BTreeMap<Key, Row>,
+    least: Pos,
+    rows: BTreeMap<Key, K>,
     base: Pos,
     base_writers: BTreeMap<Key, Pos>,
     past_base: VecDeque<(Pos, Vec<Key>)>,
     verdicts: Vec<Verdict>,
 }
 
-impl Server {
-    fn run(&self, program: &Program) -> (Effects, Vec<Answer>) {
+// The servers of a run: their boards, and the state of each or of all.
+trait Servers {
+    fn new() -> Self;
+    fn board(&self, server: usize) -> Pos;
+    fn run(&self, server: usize, program: &Program) -> (Effects, Vec<Answer>);
+    fn publish(&mut self, server: usize, log: &[Option<Entry>]);
+    // The verdicts, and how many rows there are.
+    fn ended(self) -> (Vec<Verdict>, usize);
+}
+
+struct Apart(Vec<State<Row>>);
+
+impl Servers for Apart {
+    fn new() -> Apart {
+        Apart((0..SERVERS).map(|_| State::new()).collect())
+    }
+
+    fn board(&self, server: usize) -> Pos {
+        self.0[server].board
+    }
+
+    fn run(&self, server: usize, program: &Program) -> (Effects, Vec<Answer>) {
+        self.0[server].run(self.0[server].board, program)
+    }
+
+    fn publish(&mut self, server: usize, log: &[Option<Entry>]) {
+        self.0[server].judge(log);
+    }
+
+    fn ended(mut self) -> (Vec<Verdict>, usize) {
+        let first = self.0.swap_remove(0);
+        assert!(self.0.iter().all(|s| s.verdicts == first.verdicts));
+        (first.verdicts, first.rows.len())
+    }
+}
+
+struct Once {
+    boards: [Pos; SERVERS],
+    state: State<Rows>,
+}
+
+impl Servers for Once {
+    fn new() -> Once {
+        Once {
+            boards: [0; SERVERS],
+            state: State::new(),
+        }
+    }
+
+    fn board(&self, server: usize) -> Pos {
+        self.boards[server]
+    }
+
+    fn run(&self, server: usize, program: &Program) -> (Effects, Vec<Answer>) {
+        self.state.run(self.boards[server], program)
+    }
+
+    fn publish(&mut self, server: usize, log: &[Option<Entry>]) {
+        self.state.judge(log);
+        self.boards[server] = log.len();
+        self.state.least = *self.boards.iter().min().unwrap();
+    }
+
+    fn ended(self) -> (Vec<Verdict>, usize) {
+        (self.state.verdicts, self.state.rows.len())
+    }
+}
+
+impl<K: Kept> State<K> {
+    fn new() -> State<K> {
+        State {
+            board: 0,
+            least: 0,
+            rows: BTreeMap::new(),
+            base: 0,
+            base_writers: BTreeMap::new(),
+            past_base: VecDeque::new(),
+            verdicts: Vec::new(),
+        }
+    }
+
+    fn run(&self, board: Pos, program: &Program) -> (Effects, Vec<Answer>) {
         let mut effects = Effects::default();
         let mut answers = Vec::with_capacity(program.commands.len());
         for command in &program.commands {
             match command {
                 Command::Get(key) => {
-                    let seen = self.seen(&mut effects, *key);
+                    let seen = self.seen(board, &mut effects, *key);
                     answers.push(Answer::Value(seen));
                 }
                 Command::Put(key, value) => {
@@ -160,7 +292,7 @@ impl Server {
                     answers.push(Answer::Done);
                 }
                 Command::Add(key, n) => {
-                    let before = match self.seen(&mut effects, *key) {
+                    let before = match self.seen(board, &mut effects, *key) {
                         Some(value) => std::str::from_utf8(&value).unwrap().parse().unwrap(),
                         None => 0u64,
                     };
@@ -172,8 +304,8 @@ impl Server {
                     let pairs: Vec<(Key, Value)> = self
                         .rows
                         .range(lo..=hi)
+                        .filter_map(|(key, kept)| Some((*key, kept.at(board)?.value.clone())))
                         .take(*n)
-                        .map(|(key, row)| (*key, row.value.clone()))
                         .collect();
                     let end = if pairs.len() == *n { pairs[n - 1].0 } else { *hi };
                     effects.spans.push((*lo, end));
@@ -184,18 +316,19 @@ impl Server {
         (effects, answers)
     }
 
-    fn seen(&self, effects: &mut Effects, key: Key) -> Option<Value> {
+    fn seen(&self, board: Pos, effects: &mut Effects, key: Key) -> Option<Value> {
         if let Some(value) = effects.writes.get(&key) {
             return Some(value.clone());
         }
         if let Err(at) = effects.points.binary_search(&key) {
             effects.points.insert(at, key);
         }
-        self.rows.get(&key).map(|row| row.value.clone())
+        Some(self.rows.get(&key)?.at(board)?.value.clone())
     }
 
-    fn publish(&mut self, log: &[Option<Entry>], upto: Pos) {
-        while self.board < upto {
+    // Judges what was not judged yet.
+    fn judge(&mut self, log: &[Option<Entry>]) {
+        while self.board < log.len() {
             self.judge_group(&log[self.board..self.board + GROUP]);
         }
     }
@@ -235,7 +368,7 @@ impl Server {
         for (at, entry) in group.iter().enumerate() {
             if let (Some(entry), Verdict::Commit) = (entry, verdicts[at]) {
                 let from = entry.snap.max(self.base);
-                entry.each_touched(&self.rows, |_, row| late |= row.writer > from);
+                entry.each_touched(&self.rows, |_, kept| late |= kept.newest().writer > from);
             }
         }
         for (at, entry) in group.iter().enumerate() {
@@ -254,7 +387,13 @@ impl Server {
     fn commit(&mut self, writer: Pos, entry: &Entry) {
         for (key, value) in &entry.writes {
             let value = value.clone();
-            self.rows.insert(*key, Row { writer, value });
+            let row = Row { writer, value };
+            match self.rows.entry(*key) {
+                Slot::Occupied(kept) => kept.into_mut().put(row, self.least),
+                Slot::Vacant(place) => {
+                    place.insert(K::first(row));
+                }
+            }
         }
         let keys = entry.writes.iter().map(|w| w.0).collect();
         self.past_base.push_back((writer, keys));
@@ -267,7 +406,7 @@ struct Client {
     begun: Option<(Pos, bool, Effects, Vec<Answer>)>,
 }
 
-// What a run leaves: the log, a server at its end, and how many programs only read.
+// What a run leaves: the log, its verdicts, how many rows there are, and how many programs only read.
 pub struct Ended {
     pub log: Vec<Option<Entry>>,
     verdicts: Vec<Verdict>,
@@ -276,13 +415,17 @@ pub struct Ended {
 }
 
 pub fn run(seed: u64, size: usize) -> Ended {
+    run_on::<Apart>(seed, size)
+}
+
+fn run_on<S: Servers>(seed: u64, size: usize) -> Ended {
     let mut clients: Vec<Client> = (0..CLIENTS).map(|_| Client::default()).collect();
     let mut drawn = Words::new(seed, 1);
     for number in 0..size {
         let program = program(number, &mut drawn);
         clients[number % CLIENTS].programs.push_back(program);
     }
-    let mut servers: Vec<Server> = (0..SERVERS).map(|_| Server::default()).collect();
+    let mut servers = S::new();
     let mut log: Vec<Option<Entry>> = Vec::new();
     let mut told: Vec<Vec<Answer>> = Vec::with_capacity(size);
     let mut reads = 0;
@@ -292,8 +435,8 @@ pub fn run(seed: u64, size: usize) -> Ended {
             let server = at % SERVERS;
             if round % (1 << server) == 0 && client.begun.is_none() {
                 if let Some(program) = client.programs.pop_front() {
-                    let (effects, answers) = servers[server].run(&program);
-                    client.begun = Some((servers[server].board, program.reads, effects, answers));
+                    let (effects, answers) = servers.run(server, &program);
+                    client.begun = Some((servers.board(server), program.reads, effects, answers));
                 }
             }
         }
@@ -318,22 +461,21 @@ pub fn run(seed: u64, size: usize) -> Ended {
         while log.len() % GROUP != 0 {
             log.push(None);
         }
-        for (at, server) in servers.iter_mut().enumerate() {
-            if (round + 1) % (1 << at) == 0 {
-                server.publish(&log, log.len());
+        for server in 0..SERVERS {
+            if (round + 1) % (1 << server) == 0 {
+                servers.publish(server, &log);
             }
         }
         round += 1;
     }
-    for server in &mut servers {
-        server.publish(&log, log.len());
+    for server in 0..SERVERS {
+        servers.publish(server, &log);
     }
-    let first = servers.swap_remove(0);
-    assert!(servers.iter().all(|s| s.verdicts == first.verdicts));
+    let (verdicts, rows) = servers.ended();
     Ended {
         log,
-        verdicts: first.verdicts,
-        rows: first.rows.len(),
+        verdicts,
+        rows,
         reads,
     }
 }
@@ -348,7 +490,10 @@ fn main() {
         verdicts,
         rows,
         reads,
-    } = run(seed, size);
+    } = match words.get(3) {
+        Some(_) => run_on::<Once>(seed, size),
+        None => run(seed, size),
+    };
     let count = |verdict| verdicts.iter().filter(|v| **v == verdict).count();
     println!("load seed {seed} size {size}");
     println!("entries {} fillers {}", log.len(), count(Verdict::Filler));

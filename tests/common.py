@@ -70,9 +70,10 @@ class Caller:
         os.chdir(self.folder)
         self.source = None
 
-    def start(self, words, source, log, points, env=None):
+    def start(self, words, source, log, points, env=None, spare=None):
         put_file("hyder.log", log)
         put_file("hyder.points", points)
+        put_file("hyder.spare", spare)
         if source != self.source:
             put_file("in", source)
             self.source = source
@@ -80,17 +81,31 @@ class Caller:
         actions = [(os.POSIX_SPAWN_OPEN, number, name, how, 0o600) for number, name, how in files]
         return os.posix_spawn(self.program, ["hyder", *words], env or {}, file_actions=actions)
 
-    def call(self, words, source=b"", log=None, points=None, env=None):
+    def call(self, words, source=b"", log=None, points=None, env=None, spare=None):
         """The answer of one call on these files. Something on standard error, or an end by a signal, is status -1."""
-        _, ended = os.waitpid(self.start(words, source, log, points, env), 0)
+        _, ended = os.waitpid(self.start(words, source, log, points, env, spare), 0)
         status = os.waitstatus_to_exitcode(ended)
         if os.path.getsize("err"):
             status = -1
-        return model.Answer(status, content("out"), content("hyder.log"), content("hyder.points"))
+        return model.Answer(status, content("out"), content("hyder.log"), content("hyder.points"), content("hyder.spare"))
 
     def close(self):
         os.chdir("/")
         shutil.rmtree(self.folder, ignore_errors=True)
+
+
+def begun_copy(spare, whole):
+    """How many entries a spare file has, and what is wrong with it: it has to be unborn, or a beginning of the whole copy."""
+    if model.is_unborn(spare):
+        return 0, []
+    try:
+        shape, bodies, _ = model.read_log(spare)
+    except model.BadPage as bad:
+        return 0, ["page %d of the spare file is refused: %s" % (bad.page, bad.why)]
+    wanted_shape, wanted, _ = model.read_log(whole)
+    if (shape, model.cut_in(spare)) != (wanted_shape, model.cut_in(whole)):
+        return len(bodies), ["another header"]
+    return len(bodies), [] if bodies == wanted[:len(bodies)] else ["%d entries are not the first of the copy" % len(bodies)]
 
 
 def difference(wanted, found):

@@ -1,6 +1,6 @@
 """An independent model of what `hyder` answers, written from the definitions of its formats and rules and not from its code.
 
-`answer(words, source, log, points)` is the whole of it: the status, the text on standard output, and the bytes of both files
+`answer(words, source, log, points, spare)` is the whole of it: the status, the text on standard output, and the bytes of the files
 afterwards, for each command whose answer is determined: all but a `run` of two or more clients with programs. Such a run is
 judged by `judge`, by the trace that it printed. All is plain and slow: sets, lists and dictionaries.
 """
@@ -10,27 +10,67 @@ import struct
 PAGE = 256
 GATE = 0x47
 MAGIC = b"HYDERLOG"
-MOST_BODY = 18634
+MAGIC_OF_CUT = b"HYDERCUT"
+STREAM_MAGIC = b"HYDERSTR"
+STREAM_HEAD = 19
 U64 = 2**64 - 1
 MOST_CAP = 2147483648
+MOST_HORIZON = 2147483648
 MOST_SOURCE = 16777216
 
-Shape = collections.namedtuple("Shape", "group window cap")
-# points: ascending keys; spans: ascending (lo, hi); writes: ascending (key, bytes or None). A filler has client 0.
-Entry = collections.namedtuple("Entry", "server client snap points spans writes")
-Answer = collections.namedtuple("Answer", "status text log points")
-Script = collections.namedtuple("Script", "shape servers clients")
+# The horizon is there from version 3 on, and none before.
+Shape = collections.namedtuple("Shape", "group window cap version horizon", defaults=(1, None))
+# points: ascending keys; spans: ascending (lo, hi); writes: ascending (key, bytes or None); whether it is at Snapshot isolation. A filler has client 0.
+Entry = collections.namedtuple("Entry", "server client snap points spans writes snapshot", defaults=(False,))
+Answer = collections.namedtuple("Answer", "status text log points spare", defaults=(None,))
+# keeps: how many of its last boards each server keeps.
+Script = collections.namedtuple("Script", "shape servers clients keeps", defaults=(1,))
 Client = collections.namedtuple("Client", "server programs")
+# as_of: the position that it asks for, or none.
+Program = collections.namedtuple("Program", "commands snapshot as_of", defaults=(False, None))
 
 
 def is_good(shape):
-    return 1 <= shape.group <= 8 and 1 <= shape.window <= 64 and shape.group <= shape.cap <= MOST_CAP and shape.cap % shape.group == 0
+    return (1 <= shape.group <= 8 and 1 <= shape.window <= 64 and shape.group <= shape.cap <= MOST_CAP and shape.cap % shape.group == 0
+            and 1 <= shape.version <= 3 and is_horizon(shape))
+
+
+def has_horizon(version):
+    return version >= 3
+
+
+def is_horizon(shape):
+    """Whether the horizon is one that a shape of its version may have."""
+    if not has_horizon(shape.version):
+        return shape.horizon is None
+    return shape.horizon is not None and shape.group * shape.window <= shape.horizon <= MOST_HORIZON
+
+
+def tells_isolation(version):
+    """Whether an entry has a byte for its isolation."""
+    return version >= 2
+
+
+def most_body(version):
+    return 18635 if tells_isolation(version) else 18634
 
 
 def base_of(shape, number):
     """The premeld base of a group."""
     window = (number - 1) // shape.window
     return shape.group * shape.window * (window - 1) if window >= 1 else 0
+
+
+def line_at(shape, position):
+    """The line at a position: at or below it a deletion is no row any more. It moves at the ends of windows."""
+    size = shape.group * shape.window
+    return max(0, position // size * size - shape.horizon) if shape.horizon is not None else 0
+
+
+def shape_line(shape):
+    """The line of a script that asks for a shape."""
+    told = {1: 3, 2: 4, 3: 5}[shape.version]
+    return b" ".join([b"shape", *(b"%d" % number for number in shape[:told])])
 
 
 def is_filler(entry):
@@ -89,14 +129,15 @@ def anything(_number):
     return None
 
 
-def decode(body):
+def decode(body, version=1):
     reader = Reader(body, 0, len(body))
     filler = reader.field(1, lambda kind: kind > 1 and "kind") == 0
     server = reader.field(1, lambda n: not 1 <= n <= 8 and "server")
     client = reader.field(1, lambda n: (n != 0 if filler else not 1 <= n <= 128) and "client")
+    snapshot = tells_isolation(version) and reader.field(1, lambda n: n > (0 if filler else 1) and "iso") == 1
     snap = reader.field(4, lambda n: filler and n != 0 and "snap")
-    most = 0 if filler else 64
-    counts = [reader.field(1, lambda n, least=least: not least <= n <= most and "count") for least in (0, 0, 0 if filler else 1)]
+    reads, most = 0 if filler or snapshot else 64, 0 if filler else 64
+    counts = [reader.field(1, lambda n, least=least, upto=upto: not least <= n <= upto and "count") for least, upto in ((0, reads), (0, reads), (0 if filler else 1, most))]
     points, spans, writes = [], [], []
     for _ in range(counts[0]):
         points.append(reader.field(8, lambda key: bool(points) and key <= points[-1] and "order"))
@@ -116,14 +157,14 @@ def decode(body):
         writes.append((key, reader.value()))
     if reader.at < reader.end:
         raise Bad(reader.at, "long")
-    return Entry(server, client, snap, tuple(points), tuple(spans), tuple(writes))
+    return Entry(server, client, snap, tuple(points), tuple(spans), tuple(writes), snapshot)
 
 
 def decode_at(body, position, shape):
-    entry = decode(body)
+    entry = decode(body, shape.version)
     start = (position - 1) // shape.group * shape.group + 1
     if not is_filler(entry) and (entry.snap % shape.group or entry.snap > start - 1):
-        raise Bad(3, "snap")
+        raise Bad(4 if tells_isolation(shape.version) else 3, "snap")
     return entry
 
 
@@ -131,13 +172,56 @@ def value_bytes(value):
     return b"\0" if value is None else struct.pack("<BH", 1, len(value)) + value
 
 
-def encode(entry):
+def encode(entry, version=1):
     kind = 0 if is_filler(entry) else 1
-    parts = [struct.pack("<BBBIBBB", kind, entry.server, entry.client, entry.snap, len(entry.points), len(entry.spans), len(entry.writes))]
+    isolation = bytes([entry.snapshot]) if tells_isolation(version) else b""
+    parts = [struct.pack("<BBB", kind, entry.server, entry.client) + isolation + struct.pack("<IBBB", entry.snap, len(entry.points), len(entry.spans), len(entry.writes))]
     parts += [struct.pack("<Q", key) for key in entry.points]
     parts += [struct.pack("<QQ", lo, hi) for lo, hi in entry.spans]
     parts += [struct.pack("<Q", key) + value_bytes(value) for key, value in entry.writes]
     return b"".join(parts)
+
+
+# ---- the stream of a log
+
+def stream_of(shape, entries):
+    """The bytes that tell another host the shape and the entries."""
+    frames = [encode(entry, shape.version) for entry in entries]
+    head = STREAM_MAGIC + struct.pack("<BBBII", shape.version, shape.group, shape.window, shape.cap, shape.horizon or 0)
+    return head + b"".join(struct.pack("<I", len(body)) + body for body in frames)
+
+
+def read_stream(stream):
+    """The shape and the entries of a whole stream, no shape where it has no byte."""
+    if not stream:
+        return None, []
+    if len(stream) < STREAM_HEAD:
+        raise Bad(0, "short")
+    if stream[:8] != STREAM_MAGIC:
+        raise Bad(0, "magic")
+    version, group, window, cap, told = struct.unpack("<BBBII", stream[8:STREAM_HEAD])
+    if version not in (1, 2, 3):
+        raise Bad(8, "version")
+    shape = Shape(group, window, cap, version, told if has_horizon(version) else None)
+    if not is_good(shape) or told and not has_horizon(version):
+        raise Bad(9, "shape")
+    place, entries = STREAM_HEAD, []
+    while place < len(stream):
+        if place + 4 > len(stream):
+            raise Bad(place, "short")
+        length = int.from_bytes(stream[place:place + 4], "little")
+        if len(entries) == cap:
+            raise Bad(place, "cap")
+        if not 1 <= length <= most_body(version):
+            raise Bad(place, "length")
+        if place + 4 + length > len(stream):
+            raise Bad(place, "short")
+        try:
+            entries.append(decode_at(stream[place + 4:place + 4 + length], len(entries) + 1, shape))
+        except Bad as bad:
+            raise Bad(place + 4 + bad.place, bad.why)
+        place += 4 + length
+    return shape, entries
 
 
 # ---- the device of the log
@@ -154,24 +238,38 @@ class Config(Exception):
         self.field, self.log, self.asked = field, log, asked
 
 
-def header_of(shape):
-    head = bytes([GATE]) + MAGIC + struct.pack("<BBBI", 1, shape.group, shape.window, shape.cap)
+def header_of(shape, cut=0):
+    """The header of a log that was cut at a position, or that wasn't."""
+    head = bytes([GATE]) + (MAGIC_OF_CUT if cut else MAGIC) + struct.pack("<BBBI", shape.version, shape.group, shape.window, shape.cap)
+    head += struct.pack("<II", shape.horizon or 0, cut)
     return head + bytes(PAGE - len(head))
 
 
+def cut_in(page):
+    """The position at which the log with this header was cut, 0 where it wasn't."""
+    return int.from_bytes(page[20:24], "little") if page[1:9] == MAGIC_OF_CUT else 0
+
+
+def may_cut(shape, cut):
+    return 1 <= cut <= shape.cap and cut % (shape.group * shape.window) == 0
+
+
 def shape_in(page):
-    return Shape(page[10], page[11], int.from_bytes(page[12:16], "little"))
+    horizon = int.from_bytes(page[16:20], "little") if has_horizon(page[9]) else None
+    return Shape(page[10], page[11], int.from_bytes(page[12:16], "little"), page[9], horizon)
 
 
 def header_fault(page):
     """Why these 256 bytes behind their gate are no header, or none."""
-    if page[1:9] != MAGIC:
+    is_cut = page[1:9] == MAGIC_OF_CUT
+    if not is_cut and page[1:9] != MAGIC:
         return "magic"
-    if page[9] != 1:
+    if page[9] not in (1, 2, 3):
         return "version"
-    if not is_good(shape_in(page)):
+    if not is_good(shape_in(page)) or is_cut and not may_cut(shape_in(page), cut_in(page)):
         return "shape"
-    return "fill" if any(page[16:]) else None
+    fill = (b"" if has_horizon(page[9]) else page[16:20]) + (b"" if is_cut else page[20:24]) + page[24:PAGE]
+    return "fill" if any(fill) else None
 
 
 def is_unborn(device):
@@ -189,13 +287,13 @@ def record_of(body):
     return record + bytes(PAGE * pages_of(len(body)) - len(record))
 
 
-def record_at(device, page):
+def record_at(device, page, version=1):
     """The body of the record whose pages begin here, its gate aside, and the page behind it."""
     at = PAGE * page
     if at + 5 > len(device):
         raise BadPage(page, "short")
     length = int.from_bytes(device[at + 1:at + 5], "little")
-    if not 1 <= length <= MOST_BODY:
+    if not 1 <= length <= most_body(version):
         raise BadPage(page, "length")
     after = page + pages_of(length)
     if PAGE * after > len(device):
@@ -205,11 +303,11 @@ def record_at(device, page):
     return device[at + 5:at + 5 + length], after
 
 
-def is_torn_batch(device, page, left):
+def is_torn_batch(device, page, left, version):
     """Whether the rest of one to eight whole records stands behind the gate, and then a closed gate; `left` more have a place."""
     for _ in range(min(8, left)):
         try:
-            _, page = record_at(device, page)
+            _, page = record_at(device, page, version)
         except BadPage:
             return False
         if PAGE * page >= len(device):
@@ -222,7 +320,7 @@ def is_torn_batch(device, page, left):
 
 
 def read_log(device, asked=None):
-    """The shape, bodies and frontier of a device that isn't unborn."""
+    """The shape, bodies and frontier of a device that isn't unborn. The first body is that of the position behind the cut."""
     if device[0] != GATE:
         raise BadPage(0, "gate")
     if len(device) < PAGE:
@@ -236,12 +334,13 @@ def read_log(device, asked=None):
             if getattr(shape, field) != getattr(asked, field):
                 raise Config(field, getattr(shape, field), getattr(asked, field))
     bodies, page = [], 1
+    places = shape.cap - cut_in(device)
     while PAGE * page + 1 < len(device) and device[PAGE * page] == GATE:
-        if len(bodies) == shape.cap:
+        if len(bodies) == places:
             raise BadPage(page, "cap")
-        body, page = record_at(device, page)
+        body, page = record_at(device, page, shape.version)
         bodies.append(body)
-    if PAGE * page + 1 < len(device) and device[PAGE * page] != 0 and not is_torn_batch(device, page, shape.cap - len(bodies)):
+    if PAGE * page + 1 < len(device) and device[PAGE * page] != 0 and not is_torn_batch(device, page, places - len(bodies), shape.version):
         raise BadPage(page, "gate")
     return shape, bodies, page
 
@@ -251,13 +350,17 @@ def put_at(device, place, data):
     return device[:place] + data + device[place + len(data):]
 
 
+def born(device, shape, cut=0):
+    """An unborn device with a header of its own."""
+    return put_at(put_at(put_at(device, 0, b"\0"), 1, header_of(shape, cut)[1:] + b"\0"), 0, bytes([GATE]))
+
+
 def opened(device, asked=None):
     """The shape (none: unborn), bodies and frontier of a device, and its bytes once it is open."""
     if is_unborn(device):
         if asked is None:
             return None, [], 0, device
-        device = put_at(put_at(device, 0, b"\0"), 1, header_of(asked)[1:] + b"\0")
-        return asked, [], 1, put_at(device, 0, bytes([GATE]))
+        return asked, [], 1, born(device, asked)
     shape, bodies, page = read_log(device, asked)
     return shape, bodies, page, put_at(device, PAGE * page, b"\0")
 
@@ -309,8 +412,12 @@ def read_point(device, shape):
     rows = []
     for _ in range(count):
         key = reader.field(8, lambda key: bool(rows) and key <= rows[-1][0] and "order")
+        place = reader.at
         writer = reader.field(4, lambda n: not 1 <= n <= base and "writer")
-        rows.append((key, writer, reader.value()))
+        value = reader.value()
+        if value is None and writer <= line_at(shape, base):
+            raise Bad(place, "writer")
+        rows.append((key, writer, value))
     flags = [reader.field(1, lambda n: n > 1 and "flag") == 1 for _ in range(position - base)]
     if reader.at < end:
         raise Bad(reader.at, "long")
@@ -319,8 +426,13 @@ def read_point(device, shape):
     return Point(position, base, rows, flags)
 
 
+# What stands in a list of entries for one that was cut: no rule looks at it.
+CUT_ENTRY = Entry(1, 0, 0, (), (), ())
+
+
 # ---- validation, by sets
 
+# For an old one `key` is its snapshot, and there is no `by`.
 Verdict = collections.namedtuple("Verdict", "kind key by")
 COMMIT = Verdict("commit", None, None)
 
@@ -373,6 +485,9 @@ class Fold:
             entry = self.entries[pos - 1]
             if is_filler(entry):
                 continue
+            if self.shape.horizon is not None and start - 1 - entry.snap > self.shape.horizon:
+                self.verdicts[pos] = Verdict("old", entry.snap, None)
+                continue
             early = self.conflicts(entry, entry.snap, base)
             if early:
                 self.verdicts[pos] = Verdict("pre", min(early), max(self.wrote(min(early), entry.snap, base)))
@@ -392,12 +507,14 @@ class Fold:
                 self.commit(self.entries[pos - 1], pos)
 
     def rows(self, position):
-        """Each key with its last committed writer up to a position and that one's value, none for a deletion."""
-        found = []
+        """Each key with its last committed writer up to a position and that one's value, none for a deletion. Deletions at or below the line are left out."""
+        found, line = [], line_at(self.shape, position)
         for key in sorted(self.writers):
             upto = [row for row in self.writers[key] if row[0] <= position]
             if upto:
-                found.append((key, *max(upto, key=lambda row: row[0])))
+                writer, value = max(upto, key=lambda row: row[0])
+                if value is not None or writer > line:
+                    found.append((key, writer, value))
         return found
 
     def live(self, position):
@@ -421,7 +538,7 @@ Effects = collections.namedtuple("Effects", "answers points spans writes")
 
 
 def execute(program, rows):
-    """A program on a map of live rows: the lines that it is answered, its points, spans and writes."""
+    """A program on a map of live rows: the lines that it is answered, its points, spans and writes. At Snapshot isolation it records no reads."""
     answers, points, spans, writes = [], set(), set(), {}
 
     def read(key):
@@ -430,7 +547,7 @@ def execute(program, rows):
         points.add(key)
         return rows.get(key)
 
-    for name, *args in program:
+    for name, *args in program.commands:
         if name == "get":
             value = read(args[0])
             answers.append(b"none" if value is None else b"value " + value)
@@ -458,6 +575,8 @@ def execute(program, rows):
             spans.add((lo, pairs[-1][0] if len(pairs) == most else hi))
             answers.append(b"rows %d" % len(pairs))
             answers += [b"pair %d %s" % pair for pair in pairs]
+    if program.snapshot:
+        points, spans = set(), set()
     return Effects(answers, tuple(sorted(points)), tuple(sorted(spans)), tuple(sorted(writes.items())))
 
 
@@ -489,6 +608,7 @@ class ScriptReader:
         self.simulated = simulated
         self.state = "shape"
         self.shape = self.servers = None
+        self.keeps = 1
         self.clients = []
         self.program = None
         self.events = []
@@ -499,14 +619,16 @@ class ScriptReader:
         if self.state == "events":
             return set(EVENTS)
         if self.program is not None:
-            return {*COMMANDS, b"end"}
+            return {b"end", *(COMMANDS if self.program.as_of is None else (b"get", b"scan"))}
         return {b"client", *([b"begin"] if self.clients else []), *([b"schedule"] if self.simulated else [])}
 
     def range_fault(self, word, numbers):
         if word == b"shape":
             return not is_good(Shape(*numbers))
         if word == b"servers":
-            return not 1 <= numbers[0] <= 8
+            return not (1 <= numbers[0] <= 8 and all(1 <= keeps <= 64 for keeps in numbers[1:]))
+        if word == b"begin":
+            return any(asked % self.shape.group or asked > self.shape.cap for asked in numbers)
         if word in (b"client", b"p"):
             return not 1 <= numbers[0] <= self.servers
         if word == b"scan":
@@ -524,7 +646,7 @@ class ScriptReader:
             return sum(client.server == numbers[0] for client in self.clients) == 16
         if word == b"begin":
             return len(self.clients[-1].programs) == 10000
-        return word in COMMANDS and len(self.program) == 64
+        return word in COMMANDS and len(self.program.commands) == 64
 
     def read(self, number, line):
         word = line.split(b" ")[0]
@@ -532,6 +654,18 @@ class ScriptReader:
             raise Refused(number, "word")
         words = line.split(b" ")[1:]
         kinds = WORDS[word]
+        if word == b"shape":
+            kinds = {4: "nnnn", 5: "nnnnn"}.get(len(words), kinds)
+            # Six words exactly where the fourth is the third version's.
+            if len(words) in (4, 5) and (len(words) == 5) != (words[3] == b"3"):
+                raise Refused(number, "form")
+        if word == b"servers" and len(words) == 2:
+            kinds = "nn"
+        snapshot = word == b"begin" and words == [b"snapshot"]
+        if snapshot:
+            words = []
+        if word == b"begin" and words and words[0] == b"at":
+            words, kinds = words[1:], "n"
         if len(words) != len(kinds) or b"" in words:
             raise Refused(number, "form")
         if any(kind == "n" and not is_number(text) for kind, text in zip(kinds, words)):
@@ -545,17 +679,20 @@ class ScriptReader:
             raise Refused(number, "order")
         if self.count_fault(word, fields):
             raise Refused(number, "count")
-        self.take(number, word, fields)
+        if snapshot and self.shape.version == 1:
+            raise Refused(number, "version")
+        self.take(number, word, fields, snapshot)
 
-    def take(self, number, word, fields):
+    def take(self, number, word, fields, snapshot):
         if word == b"shape":
             self.shape, self.state = Shape(*fields), "servers"
         elif word == b"servers":
-            self.servers, self.state = fields[0], "clients"
+            self.servers, *keeps = fields
+            self.keeps, self.state = (keeps or [1])[0], "clients"
         elif word == b"client":
             self.clients.append(Client(fields[0], []))
         elif word == b"begin":
-            self.program = []
+            self.program = Program([], snapshot, *fields)
         elif word == b"end":
             self.clients[-1].programs.append(self.program)
             self.program = None
@@ -564,7 +701,7 @@ class ScriptReader:
         elif self.state == "events":
             self.events.append((number, (word.decode(), *fields)))
         else:
-            self.program.append((word.decode(), *fields))
+            self.program.commands.append((word.decode(), *fields))
 
 
 def read_source(source, simulated):
@@ -578,7 +715,7 @@ def read_source(source, simulated):
             reader.read(number, line)
     if reader.state in ("shape", "servers") or reader.program is not None:
         raise Refused(len(lines) + 1, "missing")
-    return Script(reader.shape, reader.servers, reader.clients), reader.events
+    return Script(reader.shape, reader.servers, reader.clients, reader.keeps), reader.events
 
 
 # ---- runs
@@ -594,7 +731,8 @@ class Core:
         self.script = script
         self.fold = fold_of(script.shape, entries, point)
         whole = len(entries) // script.shape.group * script.shape.group
-        self.boards = [whole] * script.servers
+        # The boards that each server keeps, the newest last.
+        self.kept = [[whole] for _ in range(script.servers)]
         self.next = [0] * len(script.clients)
         self.begun = [None] * len(script.clients)
         self.last = [0] * len(script.clients)
@@ -605,6 +743,10 @@ class Core:
     @property
     def length(self):
         return len(self.fold.entries)
+
+    @property
+    def boards(self):
+        return [kept[-1] for kept in self.kept]
 
     def has_program(self, client):
         return self.next[client] < len(self.script.clients[client].programs)
@@ -629,7 +771,7 @@ class Core:
         elif name == "r":
             server, upto = args[0] - 1, args[1]
             self.need(upto % shape.group == 0 and self.boards[server] < upto <= self.length)
-            self.boards[server] = upto
+            self.kept[server] = [*self.kept[server], upto][-self.script.keeps:]
         else:
             self.need(self.armed is None and 1 <= args[0] <= 4 and args[1] <= 2)
             self.armed = args
@@ -638,11 +780,17 @@ class Core:
     def client_event(self, name, client):
         begun = self.begun[client]
         if name == "b":
-            board = self.boards[self.server(client)]
-            self.need(begun is None and self.has_program(client) and board >= self.last[client])
+            kept = self.kept[self.server(client)]
+            self.need(begun is None and self.has_program(client) and kept[-1] >= self.last[client])
             program = self.script.clients[client].programs[self.next[client]]
-            rows = {key: value for key, _, value in self.fold.live(board)}
-            self.begun[client] = (board, execute(program, rows))
+            snap = kept[-1] if program.as_of is None else program.as_of
+            if snap < kept[0]:
+                self.finish(client, [], ("past", kept[0]))
+            elif snap > kept[-1]:
+                self.finish(client, [], ("notyet", kept[-1]))
+            else:
+                rows = {key: value for key, _, value in self.fold.live(snap)}
+                self.begun[client] = (snap, execute(program, rows))
             return
         self.need(begun is not None)
         snap, effects = begun
@@ -655,7 +803,8 @@ class Core:
             self.finish(client, effects.answers, ("full",))
         else:
             self.need(effects.writes and not full)
-            entry = Entry(self.server(client) + 1, client + 1, snap, effects.points, effects.spans, effects.writes)
+            snapshot = self.script.clients[client].programs[self.next[client]].snapshot
+            entry = Entry(self.server(client) + 1, client + 1, snap, effects.points, effects.spans, effects.writes, snapshot)
             if not self.append(entry, client):
                 self.appended_by(client, effects)
 
@@ -682,7 +831,7 @@ class Core:
         for other, begun in enumerate(self.begun):
             if begun is not None:
                 self.finish(other, [], ("lost",))
-        self.boards = [self.length // self.script.shape.group * self.script.shape.group] * self.script.servers
+        self.kept = [[self.length // self.script.shape.group * self.script.shape.group] for _ in self.kept]
         return True
 
     def tail_event(self):
@@ -723,6 +872,8 @@ def lines_text(lines):
 def verdict_line(position, verdict):
     if verdict.kind == "commit":
         return b"at %d commit" % position
+    if verdict.kind == "old":
+        return b"at %d abort old %d" % (position, verdict.key)
     return b"at %d abort %s %d by %d" % (position, verdict.kind.encode(), verdict.key, verdict.by)
 
 
@@ -743,10 +894,8 @@ def report_lines(core):
             lines += answers
             if outcome[0] == "at":
                 lines.append(verdict_line(outcome[1], core.fold.verdicts[outcome[1]]))
-            elif outcome[0] == "read":
-                lines.append(b"read %d" % outcome[1])
             else:
-                lines.append(outcome[0].encode())
+                lines.append(b" ".join([outcome[0].encode(), *(b"%d" % position for position in outcome[1:])]))
     for server, board in enumerate(core.boards):
         rows = core.fold.live(board)
         lines.append(b"server %d at %d rows %d" % (server + 1, board, len(rows)))
@@ -758,16 +907,23 @@ def run_text(core):
     return lines_text([b"trace %d" % len(core.trace), *map(event_line, core.trace), *report_lines(core)])
 
 
-def dump_text(shape, entries):
+def dump_text(shape, entries, cut=0):
     if shape is None:
         return b"empty\n"
-    lines = [b"log group %d window %d cap %d entries %d" % (*shape, len(entries))]
-    for position, entry in enumerate(entries, 1):
+    told = tells_isolation(shape.version)
+    version = b" version %d" % shape.version if told else b""
+    if shape.horizon is not None:
+        version += b" horizon %d" % shape.horizon
+    if cut:
+        version += b" from %d" % cut
+    lines = [b"log group %d window %d cap %d%s entries %d" % (*shape[:3], version, len(entries))]
+    for position, entry in enumerate(entries, cut + 1):
         if is_filler(entry):
             lines.append(b"entry %d server %d filler" % (position, entry.server))
         else:
             counts = (len(entry.points), len(entry.spans), len(entry.writes))
-            lines.append(b"entry %d server %d client %d snap %d points %d spans %d writes %d" % (position, entry.server, entry.client, entry.snap, *counts))
+            isolation = b" iso %d" % entry.snapshot if told else b""
+            lines.append(b"entry %d server %d client %d snap %d points %d spans %d writes %d%s" % (position, entry.server, entry.client, entry.snap, *counts, isolation))
     return lines_text(lines)
 
 
@@ -813,7 +969,7 @@ def generated(seed, size):
             [("scan", key, key + 9, 5), ("put", other, value)],
             [("get", other)],
         ][x % 4]
-        clients[number % 8].programs.append(program)
+        clients[number % 8].programs.append(Program(program))
     return Script(Shape(4, 4, 8 * size), 4, clients)
 
 
@@ -849,7 +1005,7 @@ def summary_text(seed, size, core):
 
 # ---- the whole call
 
-USAGE = b"hyder: usage: run|sim|recover|check|load\n"
+USAGE = b"hyder: usage: run|sim|recover|check|load|compact|ship|follow\n"
 
 
 class Fault(Exception):
@@ -858,9 +1014,10 @@ class Fault(Exception):
         self.status, self.line = status, line
 
 
-def find_entries(shape, bodies):
+def find_entries(shape, bodies, cut=0):
+    """The entries of these bodies, the first of them at the position behind the cut."""
     entries = []
-    for position, body in enumerate(bodies, 1):
+    for position, body in enumerate(bodies, cut + 1):
         try:
             entries.append(decode_at(body, position, shape))
         except Bad as bad:
@@ -869,10 +1026,11 @@ def find_entries(shape, bodies):
 
 
 class Call:
-    """One call of the program. What it does to the files shows in `log` and `points`, which are none where there is no file."""
+    """One call of the program. What it does to the files shows in `log`, `points` and `spare`, which are none where there is no file."""
 
-    def __init__(self, log, points):
-        self.log, self.points = log, points
+    def __init__(self, log, points, spare):
+        self.log, self.points, self.spare = log, points, spare
+        self.cut = 0
 
     def opened(self, asked=None):
         self.log = self.log or b""
@@ -882,7 +1040,8 @@ class Call:
             raise Fault(6, "log page %d %s" % (bad.page, bad.why))
         except Config as config:
             raise Fault(7, "config %s log %d script %d" % (config.field, config.log, config.asked))
-        return shape, find_entries(shape, bodies), page
+        self.cut = cut_in(self.log) if shape else 0
+        return shape, find_entries(shape, bodies, self.cut), page
 
     def read_point(self, shape, length):
         self.points = self.points or b""
@@ -896,17 +1055,47 @@ class Call:
 
     def run(self, options, source):
         script, _ = read_source(source, False)
-        _, entries, page = self.opened(script.shape)
+        _, found, page = self.opened(script.shape)
+        entries = [CUT_ENTRY] * self.cut + found
         point = self.read_point(script.shape, len(entries)) if "--point" in options else None
+        self.not_behind(point)
         if sum(bool(client.programs) for client in script.clients) > 1:
             raise ValueError("the answer of this run is not determined")
         core = Core(script, entries, point)
         core.run_tail()
         for entry in core.fold.entries[len(entries):]:
-            self.log, page = appended(self.log, page, encode(entry))
+            self.log, page = appended(self.log, page, encode(entry, script.shape.version))
         if "--save" in options:
             self.points = saved(self.points or b"", script.shape, point_of(script.shape, core.fold, core.length))
         return run_text(core)
+
+    def not_behind(self, point):
+        base = point.base if point else 0
+        if base < self.cut:
+            raise Fault(8, "point base %d log from %d" % (base, self.cut))
+
+    def compact(self):
+        shape, entries, _ = self.opened()
+        point = self.read_point(shape, self.cut + len(entries)) if shape else None
+        base = point.base if point else 0
+        if base <= self.cut:
+            raise Fault(10, "compact from %d base %d" % (self.cut, base))
+        self.spare = self.spare or b""
+        if not is_unborn(self.spare):
+            raise Fault(11, "spare in use")
+        kept = entries[base - self.cut:]
+        self.spare, page = born(self.spare, shape, base), 1
+        for entry in kept:
+            self.spare, page = appended(self.spare, page, encode(entry, shape.version))
+        return b"compact from %d entries %d\n" % (base, len(kept))
+
+    def follow(self, source):
+        try:
+            if len(source) > MOST_SOURCE:
+                raise Bad(MOST_SOURCE, "long")
+            return check_text(*read_stream(source))
+        except Bad as bad:
+            raise Fault(12, "frame at %d %s" % (bad.place, bad.why))
 
     def simulate(self, source):
         script, events = read_source(source, True)
@@ -929,33 +1118,43 @@ class Call:
             core = Core(generated(seed, size))
             run_load(core)
             return summary_text(seed, size, core)
+        if command == "compact":
+            return self.compact()
+        if command == "follow":
+            return self.follow(source)
         shape, entries, _ = self.opened()
-        return dump_text(shape, entries) if command == "recover" else check_text(shape, entries)
+        if command == "recover":
+            return dump_text(shape, entries, self.cut)
+        self.not_behind(None)
+        if command == "ship":
+            return stream_of(shape, entries) if shape else b""
+        return check_text(shape, entries)
 
 
-def answer(words, source=b"", log=None, points=None):
+def answer(words, source=b"", log=None, points=None, spare=None):
     """What the words, the program's name left out, are answered. The words have to be a line or no command of the table."""
-    call = Call(log, points)
-    if not words or words[0] not in ("run", "sim", "recover", "check", "load"):
-        return Answer(1, USAGE, log, points)
+    call = Call(log, points, spare)
+    if not words or words[0] not in ("run", "sim", "recover", "check", "load", "compact", "ship", "follow"):
+        return Answer(1, USAGE, log, points, spare)
     try:
-        return Answer(0, call.obey(words[0], words[1:], source), call.log, call.points)
+        return Answer(0, call.obey(words[0], words[1:], source), call.log, call.points, call.spare)
     except Refused as refused:
         status, line = 2, "script line %d %s" % (refused.line, refused.why)
     except Fault as fault:
         status, line = fault.status, fault.line
-    return Answer(status, b"hyder: %s\n" % line.encode(), call.log, call.points)
+    return Answer(status, b"hyder: %s\n" % line.encode(), call.log, call.points, call.spare)
 
 
 # ---- runs whose trace isn't determined
 
-def judge(script, entries, text):
-    """What is wrong with the text of a run over a log of these entries, or none; and the entries after it."""
+def judge(script, entries, text, point=None):
+    """What is wrong with the text of a run over a log of these entries, or none; and the entries after it. A log that was cut has
+    entries in place of those that are gone, and a point."""
     lines = text.split(b"\n")
     head = lines[0].split(b" ")
     if head[0] != b"trace" or len(head) != 2:
         return "no trace", []
-    core = Core(script, entries)
+    core = Core(script, entries, point)
     for line in lines[1:1 + int(head[1])]:
         name, *numbers = line.split(b" ")
         if name not in (b"b", b"a", b"e", b"f", b"p", b"r"):

@@ -1,5 +1,5 @@
 -- What the typed getters read of values that clap took.
-use Rattle.std.proofs.Common.{◌≡◌, ◌∙◌, ◌<◌, ◌≤◌, ◌^◌, ◌||◌, true≢false, ℕ, Bool, true, false, refl, sym, ap, subst, arith, List, Option, Some, None, codes, Result, Ok, Err, unwrap_or, is_some}
+use Rattle.std.proofs.Common.{◌≡◌, ◌∙◌, ◌<◌, ◌≤◌, ◌^◌, ◌||◌, true≢false, ℕ, Bool, true, false, refl, sym, ap, subst, arith, List, ◌∷◌, [], drop, Option, Some, None, codes, Result, Ok, Err, unwrap_or, is_some}
 use Rattle.std.specs.Str.{bytes_eq}
 use Rattle.std.specs.Str.Parse.{ParsesUnsigned, digits_value, without_leading_plus}
 use Rattle.clap.specs.Words.{Row, one_of, one_text, rows_of}
@@ -10,7 +10,8 @@ use Rattle.clap.proofs.ValueTestLemmas.{accepts-Accepts}
 use Rattle.clap.proofs.WalkLemmas.{both, one_text-rows}
 use Rattle.std.proofs.lemmas.Slice.Eq.{bytes_eq-Decides}
 use Rattle.hy_base.specs.Spelling.{Text}
-use Rattle.hy_cli.specs.CommandLine.{command_named, point_option, save_option, seed_option, size_option, threads_option}
+use Rattle.std.specs.List.{find}
+use Rattle.hy_cli.specs.CommandLine.{CliCommand, check_command, command_named, commands, compact_command, follow_command, load_command, point_option, recover_command, run_command, save_option, seed_option, ship_command, sim_command, size_option, threads_option}
 use Rattle.hy_cli.specs.Matches.{choices_found, has_accepted, is_accepted}
 use Rattle.hy_cli.proofs.Walks.{flag_opt, number_opt}
 
@@ -50,22 +51,34 @@ reads_flag needed f id r none on off accepted = go (one_of id (rows_of f)) refl
     go None is = rw (is, none (same ∙ is)) refl
     go (Some t) is = rw is (read t is (bytes_eq t (codes "true")) (bytes_eq t (codes "false")) refl refl (rw is at accepted))
 
--- the last of the commands that a name can be
-pub load_left : (name : Text) → is_some (command_named name) ≡ true → (name ≡ codes "recover" → ⊥) → (name ≡ codes "check" → ⊥) → (name ≡ codes "run" → ⊥) → (name ≡ codes "sim" → ⊥)
-    → name ≡ codes "load"
-load_left name known recover check run sim =
-    go (bytes_eq (codes "run") name) (bytes_eq (codes "sim") name) (bytes_eq (codes "recover") name) (bytes_eq (codes "check") name) (bytes_eq (codes "load") name) refl refl refl refl refl
+-- a name of a command isn't that of the first one, so it is of one of the others
+later : (word name : Text) (more : List CliCommand) → (name ≡ word → ⊥) → (c : CliCommand) → c.name ≡ word → is_some (find (λ c. bytes_eq c.name name) (c ∷ more)) ≡ true
+    → is_some (find (λ c. bytes_eq c.name name) more) ≡ true
+later word name more other c is known = go (bytes_eq c.name name) refl
   where
-    go : (n s r c l : Bool) → bytes_eq (codes "run") name ≡ n → bytes_eq (codes "sim") name ≡ s → bytes_eq (codes "recover") name ≡ r → bytes_eq (codes "check") name ≡ c
-        → bytes_eq (codes "load") name ≡ l → name ≡ codes "load"
-    go true s r c l is _ _ _ _ = absurd (run (sym ((bytes_eq-Decides (codes "run") name).0 is)))
-    go false true r c l _ is _ _ _ = absurd (sim (sym ((bytes_eq-Decides (codes "sim") name).0 is)))
-    go false false true c l _ _ is _ _ = absurd (recover (sym ((bytes_eq-Decides (codes "recover") name).0 is)))
-    go false false false true l _ _ _ is _ = absurd (check (sym ((bytes_eq-Decides (codes "check") name).0 is)))
-    go false false false false true _ _ _ _ is = sym ((bytes_eq-Decides (codes "load") name).0 is)
-    go false false false false false o p q r t = absurd (true≢false (sym (rw (o, p, q, r, t) at known)))
+    go : (b : Bool) → bytes_eq c.name name ≡ b → is_some (find (λ c. bytes_eq c.name name) more) ≡ true
+    go true same = absurd (other (sym ((bytes_eq-Decides c.name name).0 same) ∙ is))
+    go false same = rw same at known
 
--- what a `run` has, a `sim`, and a `load`
+-- the last of the commands that a name can be
+pub load_left : (name : Text) → is_some (command_named name) ≡ true
+    → (name ≡ codes "recover" → ⊥) → (name ≡ codes "check" → ⊥) → (name ≡ codes "compact" → ⊥) → (name ≡ codes "ship" → ⊥) → (name ≡ codes "run" → ⊥) → (name ≡ codes "sim" → ⊥) → (name ≡ codes "follow" → ⊥)
+    → name ≡ codes "load"
+load_left name known recover check compact ship run sim follow =
+    let p1 = later (codes "run") name (drop 1 commands) run run_command refl known in
+    let p2 = later (codes "sim") name (drop 2 commands) sim sim_command refl p1 in
+    let p3 = later (codes "recover") name (drop 3 commands) recover recover_command refl p2 in
+    let p4 = later (codes "check") name (drop 4 commands) check check_command refl p3 in
+    let p5 = later (codes "compact") name (drop 5 commands) compact compact_command refl p4 in
+    let p6 = later (codes "ship") name (drop 6 commands) ship ship_command refl p5 in
+    let p7 = later (codes "follow") name (drop 7 commands) follow follow_command refl p6 in
+    last (bytes_eq (codes "load") name) refl p7
+  where
+    last : (b : Bool) → bytes_eq (codes "load") name ≡ b → is_some (find (λ c. bytes_eq c.name name) (load_command ∷ [])) ≡ true → name ≡ codes "load"
+    last true is _ = sym ((bytes_eq-Decides (codes "load") name).0 is)
+    last false is found = absurd (true≢false (sym (rw is at found)))
+
+-- what a `run` has, a `sim`, a `follow`, and a `load`
 pub run_accepted : (name : Text) (rows : List Row) → name ≡ codes "run" → has_accepted name rows ≡ true
     → (is_accepted rows threads_option ≡ true) × (is_accepted rows point_option ≡ true) × (is_accepted rows save_option ≡ true)
 run_accepted name rows is accepted =
@@ -77,6 +90,11 @@ run_accepted name rows is accepted =
 pub sim_accepted : (name : Text) (rows : List Row) → name ≡ codes "sim" → has_accepted name rows ≡ true → is_accepted rows threads_option ≡ true
 sim_accepted name rows is accepted =
     let all : has_accepted (codes "sim") rows ≡ true = subst (λ (x : Text). has_accepted x rows ≡ true) is accepted in
+    (both (is_accepted rows threads_option) _ all).0
+
+pub follow_accepted : (name : Text) (rows : List Row) → name ≡ codes "follow" → has_accepted name rows ≡ true → is_accepted rows threads_option ≡ true
+follow_accepted name rows is accepted =
+    let all : has_accepted (codes "follow") rows ≡ true = subst (λ (x : Text). has_accepted x rows ≡ true) is accepted in
     (both (is_accepted rows threads_option) _ all).0
 
 pub load_accepted : (name : Text) (rows : List Row) → name ≡ codes "load" → has_accepted name rows ≡ true

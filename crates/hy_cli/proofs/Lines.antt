@@ -9,10 +9,10 @@ use Rattle.clap.specs.Takes.{takes, walk_passes}
 use Rattle.clap.proofs.WalkLemmas.{walk_stopped}
 use Rattle.std.proofs.lemmas.Slice.Eq.{bytes_eq-Decides}
 use Rattle.hy_base.specs.Spelling.{Text}
-use Rattle.hy_cli.specs.CommandLine.{CliCommand, CliOption, Given, check_command, choices_given, command_line, command_named, commands, given_all, line_of, load_command, point_option, recover_command, run_command, save_option, seed_option, sim_command, size_option, threads_option}
+use Rattle.hy_cli.specs.CommandLine.{CliCommand, CliOption, Given, check_command, choices_given, compact_command, follow_command, command_line, command_named, commands, given_all, line_of, load_command, point_option, recover_command, run_command, save_option, seed_option, ship_command, sim_command, size_option, threads_option}
 use Rattle.hy_cli.specs.Matches.{choices_found, hyder_app, line_found, meant}
 use Rattle.hy_cli.specs.declared.line.Line.{Line}
-use Rattle.hy_cli.specs.declared.line.Line.TheVariants.{Run, Sim, Load}
+use Rattle.hy_cli.specs.declared.line.Line.TheVariants.{Run, Sim, Follow, Load}
 use Rattle.hy_cli.proofs.Matches.{flag_same, number_same}
 use Rattle.hy_cli.proofs.Walks.{AreRight, built_rules, leaf_shape}
 use Rattle.hy_cli.proofs.Levels.{IsTable, leaf_takes, rows_of_all}
@@ -94,6 +94,18 @@ check_enters : Enters check_command.name []
 unfolding walked walk_passes
 check_enters = record { met = refl; passes = λ rest. refl; found = refl; table = no_table }
 
+compact_enters : Enters compact_command.name []
+unfolding walked walk_passes
+compact_enters = record { met = refl; passes = λ rest. refl; found = refl; table = no_table }
+
+ship_enters : Enters ship_command.name []
+unfolding walked walk_passes
+ship_enters = record { met = refl; passes = λ rest. refl; found = refl; table = no_table }
+
+follow_enters : Enters follow_command.name follow_command.options
+unfolding walked walk_passes
+follow_enters = record { met = refl; passes = λ rest. refl; found = refl; table = sim_table }
+
 load_enters : Enters load_command.name load_command.options
 unfolding walked walk_passes
 load_enters = record { met = refl; passes = λ rest. refl; found = refl; table = load_table }
@@ -136,6 +148,9 @@ run_means g right =
 sim_means : (g : Given) → AreRight sim_command.options g → sim_command.line (choices_found (rows_of_all sim_command.options g)) ≡ sim_command.line (choices_given g)
 sim_means g right = ap (λ n. Sim n) (number_same sim_command.options (codes "threads") 1 16 2 threads_option g (rows_of_all sim_command.options g) right refl refl refl refl)
 
+follow_means : (g : Given) → AreRight follow_command.options g → follow_command.line (choices_found (rows_of_all follow_command.options g)) ≡ follow_command.line (choices_given g)
+follow_means g right = ap (λ n. Follow n) (number_same follow_command.options (codes "threads") 1 16 2 threads_option g (rows_of_all follow_command.options g) right refl refl refl refl)
+
 load_means : (g : Given) → AreRight load_command.options g → load_command.line (choices_found (rows_of_all load_command.options g)) ≡ load_command.line (choices_given g)
 load_means g right =
     let rows = rows_of_all load_command.options g in
@@ -151,7 +166,16 @@ all_rows = (
     record { enters = sim_enters; means = sim_means },
     (
       record { enters = recover_enters; means = λ g right. refl },
-      (record { enters = check_enters; means = λ g right. refl }, (record { enters = load_enters; means = load_means }, tt)),
+      (
+        record { enters = check_enters; means = λ g right. refl },
+        (
+          record { enters = compact_enters; means = λ g right. refl },
+          (
+            record { enters = ship_enters; means = λ g right. refl },
+            (record { enters = follow_enters; means = follow_means }, (record { enters = load_enters; means = load_means }, tt)),
+          ),
+        ),
+      ),
     ),
   ),
 )

@@ -4,7 +4,7 @@ use Rattle.std.specs.Fmt.{digits}
 use Rattle.hy_base.specs.Spelling.{Text}
 use Rattle.hy_cli.specs.CommandLine.{line_of}
 use Rattle.hy_cli.specs.declared.line.Line.{Line}
-use Rattle.hy_cli.specs.declared.line.Line.TheVariants.{Run, Sim, Recover, Check, Load}
+use Rattle.hy_cli.specs.declared.line.Line.TheVariants.{Run, Sim, Recover, Check, Compact, Ship, Follow, Load}
 
 abbrev hyder : List Text → Option Line
 hyder words = line_of (codes "hyder" ∷ words)
@@ -77,6 +77,20 @@ recovers = refl
 
 checks : hyder (codes "check" ∷ []) ≡ Some Check
 checks = refl
+
+compacts : hyder (codes "compact" ∷ []) ≡ Some Compact
+compacts = refl
+
+ships : hyder (codes "ship" ∷ []) ≡ Some Ship
+ships = refl
+
+follows : hyder (codes "follow" ∷ threads ∷ codes "4" ∷ []) ≡ Some (Follow 4)
+unfolding digits
+follows = refl
+
+follows_on_two : hyder (codes "follow" ∷ []) ≡ Some (Follow 2)
+unfolding digits
+follows_on_two = refl
 
 not_its_option : hyder (codes "check" ∷ threads ∷ codes "4" ∷ []) ≡ None
 unfolding digits

@@ -8,7 +8,7 @@ use Rattle.hy_base.specs.Spelling.{Text, number_of}
 use Rattle.hy_base.specs.Shape.{is_within}
 use Rattle.hy_base.specs.Limits.{IsThreadCount, IsLoadSize}
 use Rattle.hy_cli.specs.declared.line.Line.{Line}
-use Rattle.hy_cli.specs.declared.line.Line.TheVariants.{Run, Sim, Recover, Check, Load}
+use Rattle.hy_cli.specs.declared.line.Line.TheVariants.{Run, Sim, Recover, Check, Compact, Ship, Follow, Load}
 
 -- ---- options
 
@@ -83,6 +83,15 @@ recover_command = record { name = codes "recover"; options = []; line = λ c. Re
 abbrev pub check_command : CliCommand
 check_command = record { name = codes "check"; options = []; line = λ c. Check }
 
+abbrev pub compact_command : CliCommand
+compact_command = record { name = codes "compact"; options = []; line = λ c. Compact }
+
+abbrev pub ship_command : CliCommand
+ship_command = record { name = codes "ship"; options = []; line = λ c. Ship }
+
+abbrev pub follow_command : CliCommand
+follow_command = record { name = codes "follow"; options = threads_option ∷ []; line = λ c. Follow (c.number_or 2 (codes "threads")) }
+
 -- the seed and the size have to be given, so the number for one that is not is never taken
 abbrev pub load_command : CliCommand
 load_command = record {
@@ -92,7 +101,7 @@ load_command = record {
 }
 
 abbrev pub commands : List CliCommand
-commands = run_command ∷ sim_command ∷ recover_command ∷ check_command ∷ load_command ∷ []
+commands = run_command ∷ sim_command ∷ recover_command ∷ check_command ∷ compact_command ∷ ship_command ∷ follow_command ∷ load_command ∷ []
 
 abbrev pub command_named : Text → Option CliCommand
 command_named word = find (λ c. bytes_eq c.name word) commands
@@ -101,6 +110,7 @@ command_named word = find (λ c. bytes_eq c.name word) commands
 abbrev pub IsInOptionRange : Line → Type 0
 IsInOptionRange (Run threads point save) = IsThreadCount threads
 IsInOptionRange (Sim threads) = IsThreadCount threads
+IsInOptionRange (Follow threads) = IsThreadCount threads
 IsInOptionRange (Load seed size threads) = IsLoadSize size × IsThreadCount threads
 IsInOptionRange _ = Unit {0}
 
@@ -110,6 +120,9 @@ command_word (Run threads point save) = codes "run"
 command_word (Sim threads) = codes "sim"
 command_word Recover = codes "recover"
 command_word Check = codes "check"
+command_word Compact = codes "compact"
+command_word Ship = codes "ship"
+command_word (Follow threads) = codes "follow"
 command_word (Load seed size threads) = codes "load"
 
 -- ---- the words after the command

@@ -1,6 +1,6 @@
 //! What `clap` is told of the program.
 ghost use Rattle.std.specs.Prelude.{◌≡◌, IfOk, false};
-ghost use Rattle.hy_cli.specs.CommandLine.{CliCommand, flag, load_command, run_command, seed_option, sim_command, size_option, threads_option};
+ghost use Rattle.hy_cli.specs.CommandLine.{CliCommand, flag, follow_command, load_command, run_command, seed_option, sim_command, size_option, threads_option};
 ghost use Rattle.hy_cli.specs.Matches.{app_for, hyder_app, program, rule_for, with_command};
 ghost use Rattle.clap.specs.Words.{app_of, rule_of};
 ghost use Rattle.clap.specs.declared.builder.command.Command.TheViews.{out-Command};
@@ -62,6 +62,12 @@ fn sim_command<'a>(alloc: Global) -> Result<Command<'a>, AllocError>
     Command::new(alloc, "sim").arg(threads_arg(alloc))
 }
 
+fn follow_command<'a>(alloc: Global) -> Result<Command<'a>, AllocError>
+    ensures { IfOk result (λ c. (app_of c ≡ app_for follow_command.name follow_command.options) × ((out-Command c).has_globals ≡ false)) }
+{
+    Command::new(alloc, "follow").arg(threads_arg(alloc))
+}
+
 fn load_command<'a>(alloc: Global) -> Result<Command<'a>, AllocError>
     ensures { IfOk result (λ c. (app_of c ≡ app_for load_command.name load_command.options) × ((out-Command c).has_globals ≡ false)) }
 {
@@ -98,6 +104,9 @@ pub(crate) fn hyder_command<'a>(alloc: Global) -> Result<Command<'a>, AllocError
     let app = with_command(program(alloc), run_command(alloc))?;
     let app = with_command(app, sim_command(alloc))?
         .subcommand(Command::new(alloc, "recover"))?
-        .subcommand(Command::new(alloc, "check"))?;
+        .subcommand(Command::new(alloc, "check"))?
+        .subcommand(Command::new(alloc, "compact"))?
+        .subcommand(Command::new(alloc, "ship"))?;
+    let app = with_command(app, follow_command(alloc))?;
     with_command(app, load_command(alloc))
 }

@@ -13,6 +13,6 @@ mod line;
 mod matched;
 mod parsing;
 
-pub use laws::{line_asks_for_itself, words_ask_for_one};
+pub use laws::{line_asks_for_itself, words_ask_for_one, words_ask_or_are_refused};
 pub use line::{CliError, Line};
 pub use parsing::parse;

@@ -23,6 +23,14 @@ pub enum Line {
     Recover,
     /// Print what the log means.
     Check,
+    /// Copy the log past the saved point's base to the spare device.
+    Compact,
+    /// Write the log as a stream.
+    Ship,
+    /// Take the stream of a log, rolling it on 1 to 16 threads, and print what the log means.
+    Follow {
+        threads: u8,
+    },
     /// Run a generated load of 1 to 80,000 programs, on 1 to 16 threads. Any seed is lawful.
     Load {
         seed: u64,

@@ -54,12 +54,17 @@ pub(crate) fn line_from(name: &str, found: &ArgMatches<'_>) -> Line
     match name {
         "recover" => Line::Recover,
         "check" => Line::Check,
+        "compact" => Line::Compact,
+        "ship" => Line::Ship,
         "run" => Line::Run {
             threads: threads_of(found),
             point: flag_of(found, "point"),
             save: flag_of(found, "save"),
         },
         "sim" => Line::Sim {
+            threads: threads_of(found),
+        },
+        "follow" => Line::Follow {
             threads: threads_of(found),
         },
         _ => Line::Load {

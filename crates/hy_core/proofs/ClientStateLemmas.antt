@@ -1,5 +1,5 @@
--- Clients' client_states: what is known at a client's number, and how it is kept.
-use Rattle.std.proofs.Common.{◌≡◌, ℕ, zero, suc, ◌+◌, ◌-◌, ◌≤◌, Bool, false, List, [], ◌∷◌, length, map, refl, ap, sym, ◌∙◌, subst, arith}
+-- Clients' states: what is known at a client's number, and how it is kept.
+use Rattle.std.proofs.Common.{◌≡◌, ℕ, zero, suc, ◌+◌, ◌-◌, ◌≤◌, Bool, false, List, [], ◌∷◌, map, refl, ap, sym, ◌∙◌, subst, arith}
 use Rattle.std.specs.Prelude.{Option, Some, None, slice_get, option_map, option_and_then, unwrap_or, slice_set}
 use Rattle.std.specs.Option.{option_map_or}
 use Rattle.hy_base.specs.declared.record.EntryKind.{EntryKind}
@@ -9,7 +9,7 @@ use Rattle.hy_base.specs.declared.workload.Home.{Home}
 use Rattle.hy_base.specs.declared.workload.Session.{Session}
 use Rattle.hy_base.specs.declared.workload.Phase.TheVariants.{Begun}
 use Rattle.hy_base.specs.Lists.{nth, change_nth}
-use Rattle.hy_base.specs.Script.{Workload}
+use Rattle.hy_base.specs.Script.{Workload, home_of}
 use Rattle.hy_base.proofs.NthLemmas.{nth_map, set_nth}
 use Rattle.hy_rules.specs.Validation.{live}
 use Rattle.hy_rules.specs.Exec.{exec}
@@ -18,7 +18,7 @@ use Rattle.hy_rules.specs.Runs.{setting_of, pending, execution, snap_of}
 use Rattle.hy_core.specs.declared.parts.ClientState.{ClientState}
 use Rattle.hy_core.specs.CoreParts.{IsClientState, AreClientStates}
 
--- the client at a client_state
+-- the client at a client state
 pub record KeptClient (script : Workload) (log : List EntryKind) (number : ℕ) (cs : List Client) (k : ℕ) (x : ClientState) : Type 0 where
   pub client : Client
   pub is_client : slice_get cs k ≡ Some client
@@ -54,9 +54,9 @@ kept_client_at script log cs xs (suc k) x are e =
 
 -- what a client passes
 pub passes_is : (script : Workload) (s : State) (client : ℕ) (c : Client) (x : Session) (test : Home → Session → Bool) → nth script.clients client ≡ Some c → nth s.sessions client ≡ Some x
-    → client_passes (setting_of script) s client test ≡ test (record { server = c.server; programs = length c.programs }) x
+    → client_passes (setting_of script) s client test ≡ test (home_of c) x
 passes_is script s client c x test p q =
-    let home : nth (setting_of script).homes client ≡ Some (record { server = c.server; programs = length c.programs }) = nth_map (λ (d : Client). record { server = d.server; programs = length d.programs }) script.clients client c p in
+    let home : nth (setting_of script).homes client ≡ Some (home_of c) = nth_map home_of script.clients client c p in
     (λ i. option_map_or (λ h. option_map_or (test h) (q i) false) (home i) false)
 
 none_passes : (o : Option Home) (test : Home → Session → Bool) → option_map_or (λ h. option_map_or (test h) None false) o false ≡ false
@@ -94,7 +94,7 @@ pub set_at : {X : Type 0} (xs : List X) (n : ℕ) (x y : X) → 1 ≤ n → y �
 set_at xs zero x y some same = absurd (omega (arith, some))
 set_at xs (suc k) x y some same = let at : suc k - 1 ≡ k = omega arith in (λ i. slice_set xs (at i) (same i)) ∙ set_nth xs k x
 
--- a client_state that changes
+-- a client state that changes
 pub client_states_change : (script : Workload) (log : List EntryKind) (number : ℕ) (cs : List Client) (xs : List ClientState) (k : ℕ) (c : Client) (y : ClientState) → AreClientStates script log number cs xs → slice_get cs k ≡ Some c → IsClientState script log (number + k) c y
     → AreClientStates script log number cs (change_nth (λ _. y) xs (suc k))
 client_states_change script log number [] [] k c y are e is = absurd (cc)

@@ -1,23 +1,22 @@
 -- What is kept after a publish: the furthest roller that hasn't passed the position goes on to it.
 use Rattle.std.proofs.Common.{◌≡◌, ℕ, ◌+◌, ◌%◌, ◌<◌, ◌≤◌, Bool, true, false, List, [], ◌∷◌, length, map, refl, ap, sym, ◌∙◌, subst, arith}
-use Rattle.std.proofs.Math.Nat.{mul-mod_right}
 use Rattle.std.proofs.lemmas.List.{append-nil}
 use Rattle.std.specs.Prelude.{◌&&◌, ◌==◌, nat_lt, nat_le, Some, if◌then◌else◌}
 use Rattle.std.specs.List.{AllByRecursion}
 use Rattle.std.proofs.lemmas.Bool.{and_parts}
-use Rattle.hy_base.specs.declared.record.EntryKind.{EntryKind}
 use Rattle.hy_base.specs.declared.workload.Event.TheVariants.{Publish}
 use Rattle.hy_base.specs.Shape.{IsWithin}
 use Rattle.hy_base.specs.Lists.{nth, change_nth}
 use Rattle.hy_base.specs.Script.{Workload, IsScript}
-use Rattle.hy_base.proofs.NthLemmas.{nth_within, map_change, length_change, all_nth}
+use Rattle.hy_base.proofs.NthLemmas.{nth_some, map_change, length_change, all_nth}
 use Rattle.hy_rolling.specs.Rolling.{Roll, rolled_upto, roll_on}
-use Rattle.hy_rules.specs.Moves.{State, board_of, is_declared, ends_whole_group}
+use Rattle.hy_rules.specs.Moves.{State, board_of, is_declared, ends_whole_group, keeping}
 use Rattle.hy_rules.specs.Runs.{setting_of, may_happen}
-use Rattle.hy_core.specs.CoreParts.{Holding, IsHolding, IsServerBoard, StepsTo, entries_between, furthest, state_in_course, done_of}
+use Rattle.hy_core.specs.CoreParts.{Holding, IsHolding, IsServerBoard, MovesOn, RolledBoard, StepsTo, entries_between, furthest, keeping_rolls, moving_on, state_in_course, done_of}
 use Rattle.hy_core.proofs.Beginning.{board_is}
-use Rattle.hy_core.proofs.Publishing.{WholeGroups, all_change, between_groups, between_length, server_is}
-use Rattle.hy_core.proofs.Rerolls.{RolledBoard, rolled_board}
+use Rattle.hy_core.proofs.Kept.{all_keeping, keeping_is}
+use Rattle.hy_core.proofs.Publishing.{all_change, server_is}
+use Rattle.hy_core.proofs.Rerolls.{RollsTo, rolled_board, rolls_to}
 
 pub record MayPublish (script : Workload) (h : Holding) (server upto : ℕ) : Type 0 where
   pub declared : IsWithin 1 script.servers server
@@ -69,47 +68,59 @@ pub record CanRoll (script : Workload) (h : Holding) (server upto : ℕ) (r : Ro
   pub within : upto ≤ length h.log
   pub whole : length (entries_between h.log (rolled_upto r) upto) % r.shape.group ≡ 0
   pub room : rolled_upto r + length (entries_between h.log (rolled_upto r) upto) ≤ r.shape.cap
-  pub place : IsWithin 1 (length h.rollers) server
+  pub goes_on : (rolled : Roll) → rolled ≡ roll_on r (entries_between h.log (rolled_upto r) upto) → RolledBoard script h.log rolled upto
 
-pub can_roll : (script : Workload) (h : Holding) (server upto : ℕ) (own r : Roll) → IsHolding script h → may_happen script (state_in_course h) (Publish server upto) ≡ true → nth h.rollers server ≡ Some own → r ≡ furthest upto own h.rollers → CanRoll script h server upto r
-can_roll script h server upto own r is may at far =
+pub can_roll : (script : Workload) (h : Holding) (server upto : ℕ) (own r : Roll) → IsScript script → IsHolding script h → may_happen script (state_in_course h) (Publish server upto) ≡ true → nth h.rollers server ≡ Some own → r ≡ furthest upto own h.rollers → CanRoll script h server upto r
+can_roll script h server upto own r script_is is may at far =
     let m : MayPublish script h server upto = may_publish script h server upto may in
     let above : rolled_upto own < upto = subst (λ n. n < upto) (board_is h server own at) m.above in
     let low : rolled_upto r ≤ upto = subst (λ x. rolled_upto x ≤ upto) (sym far) (furthest_low upto own h.rollers (omega (arith, above))) in
     let b : IsServerBoard script h.log r = subst (IsServerBoard script h.log) (sym far) (furthest_is (IsServerBoard script h.log) upto own h.rollers (all_nth (IsServerBoard script h.log) h.rollers server own is.boards at) is.boards) in
-    let entries : List EntryKind = entries_between h.log (rolled_upto r) upto in
-    let groups : WholeGroups script entries = between_groups script h.log r upto b low m.within m.whole in
-    let whole : length entries % script.shape.group ≡ 0 = ap (λ n. n % script.shape.group) groups.is ∙ mul-mod_right script.shape.group groups.count in
-    let len : rolled_upto r + length entries ≡ upto = between_length script h.log r upto b low m.within in
-    let fits : rolled_upto r + length entries ≤ script.shape.cap = omega (arith, len, m.within, is.lawful.capacity) in
+    let rolls : RollsTo h.log r upto = rolls_to script h.log r upto is.lawful b low m.within m.whole in
     record {
       board = b;
       order = low;
       within = m.within;
-      whole = subst (λ s. length entries % s.group ≡ 0) (sym b.shape) whole;
-      room = subst (λ s. rolled_upto r + length entries ≤ s.cap) (sym b.shape) fits;
-      place = nth_within h.rollers server own at;
+      whole = rolls.whole;
+      room = rolls.room;
+      goes_on = λ rolled rolls_on. rolled_board script h.log r rolled upto script_is is.lawful b low m.within m.whole rolls_on;
     }
 
 -- ---- the event
 
-pub publish_steps : (script : Workload) (h new : Holding) (server upto : ℕ) (r rolled : Roll) → IsScript script → IsHolding script h → may_happen script (state_in_course h) (Publish server upto) ≡ true → CanRoll script h server upto r
-    → rolled ≡ roll_on r (entries_between h.log (rolled_upto r) upto) → new ≡ record h { rollers = change_nth (λ _. rolled) h.rollers server } → StepsTo script h new (Publish server upto)
-publish_steps script h new server upto r rolled script_is is may can rolls is_new =
+-- the server's board, as the rules name it, and its list
+pub record CanMoveOn (script : Workload) (h : Holding) (server : ℕ) : Type 0 where
+  pub place : IsWithin 1 (length h.rollers) server
+  pub list : IsWithin 1 (length h.earlier) server
+
+pub can_move_on : (script : Workload) (h : Holding) (server upto : ℕ) → IsHolding script h → may_happen script (state_in_course h) (Publish server upto) ≡ true → CanMoveOn script h server
+can_move_on script h server upto is may =
     let m : MayPublish script h server upto = may_publish script h server upto may in
-    let on : RolledBoard script h.log rolled upto = rolled_board script h.log r rolled upto script_is is.lawful can.board can.order m.within m.whole rolls in
-    let steps : StepsTo script h (record h { rollers = change_nth (λ _. rolled) h.rollers server }) (Publish server upto) = record {
+    record {
+      place = record { at_least = m.declared.at_least; at_most = omega (arith, m.declared.at_most, is.servers) };
+      list = record { at_least = m.declared.at_least; at_most = omega (arith, m.declared.at_most, is.lists) };
+    }
+
+pub publish_steps : (script : Workload) (h new : Holding) (server upto : ℕ) (rolled : Roll) → IsHolding script h → may_happen script (state_in_course h) (Publish server upto) ≡ true → RolledBoard script h.log rolled upto → MovesOn h new server script.keeps rolled
+    → StepsTo script h new (Publish server upto)
+publish_steps script h new server upto rolled is may on moves =
+    let there : (r : Roll) × (nth h.rollers server ≡ Some r) = nth_some h.rollers server (can_move_on script h server upto is may).place in
+    let own : Roll = there.0 in
+    let at : nth h.rollers server ≡ Some own = there.1 in
+    let steps : StepsTo script h (moving_on h server script.keeps own rolled) (Publish server upto) = record {
       holding = record {
         stored = is.stored;
         armed = is.armed;
         lawful = is.lawful;
         servers = length_change (λ _. rolled) h.rollers server ∙ is.servers;
         boards = all_change (IsServerBoard script h.log) h.rollers server rolled on.board is.boards;
+        lists = length_change (keeping_rolls script.keeps own) h.earlier server ∙ is.lists;
+        earlier = all_keeping (IsServerBoard script h.log) script.keeps own h.earlier server (all_nth (IsServerBoard script h.log) h.rollers server own is.boards at) is.earlier;
         client_states = is.client_states;
         told = is.told;
       };
-      leads = (λ i. record { log = h.log; boards = (map_change rolled_upto h.rollers server rolled ∙ ap (λ n. change_nth (λ _. n) (map rolled_upto h.rollers) server) on.at) i; sessions = (state_in_course h).sessions; armed = h.armed });
+      leads = (λ i. record { log = h.log; boards = (map_change rolled_upto h.rollers server rolled ∙ ap (λ n. change_nth (λ _. n) (map rolled_upto h.rollers) server) on.at) i; earlier = (keeping_is script.keeps own h.earlier server ∙ ap (λ n. change_nth (keeping script.keeps n) (state_in_course h).earlier server) (sym (board_is h server own at))) i; sessions = (state_in_course h).sessions; armed = h.armed });
       ends = sym (append-nil (done_of h));
       whole = refl;
     } in
-    subst (λ k. StepsTo script h k (Publish server upto)) (sym is_new) steps
+    subst (λ k. StepsTo script h k (Publish server upto)) (sym (moves own at)) steps

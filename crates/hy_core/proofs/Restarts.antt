@@ -27,16 +27,17 @@ use Rattle.hy_core.specs.declared.running.Running.{Running}
 use Rattle.hy_core.specs.declared.parts.ClientState.{ClientState}
 use Rattle.hy_core.specs.declared.parts.EndedProgram.{EndedProgram}
 use Rattle.hy_roller.specs.declared.ended.ProgramEnd.TheVariants.{EntryAt}
-use Rattle.hy_core.specs.CoreParts.{Holding, ClientStateFits, IsHolding, IsOnDevice, BegunClientState, StepsTo, leaving, told_in_course, IsClientState, IsStepAnswered, AreClientStates, AreRestarted, abandoned_client_state, abandoned_told, all_abandoned, departed, kept_by, pages_with, state_in_course, done_of, ended_in_course}
+use Rattle.hy_core.specs.CoreParts.{Holding, ClientStateFits, IsHolding, IsOnDevice, BegunClientState, StepsTo, leaving, told_in_course, IsClientState, IsStepAnswered, AreClientStates, AreRestarted, abandoned_client_state, abandoned_told, all_abandoned, departed, kept_by, pages_with, IsServerBoard, state_in_course, done_of, ended_in_course}
 use Rattle.hy_core.specs.Replies.{HasFewPrograms}
 use Rattle.hy_core.proofs.Leaving.{left_client_state, still_whole, begun_of, told_is, done_is, ended_is, sessions_are}
 use Rattle.hy_core.proofs.ClientStateLemmas.{client_state_changes}
 use Rattle.hy_core.proofs.Begun.{IsBegun}
 use Rattle.hy_core.proofs.LogGrowth.{client_states_grow, told_grow, stored_after}
 use Rattle.hy_core.proofs.TailRule.{as_many}
+use Rattle.hy_core.proofs.Kept.{all_cleared, cleared}
 use Rattle.hy_core.proofs.Telling.{few_at}
 
--- ---- the client_states
+-- ---- the client states
 
 abandoned_by : (phase : Phase) (b : Bool) (x : ClientState) → is_begun phase ≡ b → x.session.phase ≡ phase → (abandoned_client_state x).session ≡ abandoned x.session
 abandoned_by Idle b x is phase = rw phase refl
@@ -123,7 +124,7 @@ constant n (x ∷ xs) = ap (λ l. n ∷ l) (constant n xs)
 
 -- the parts after a stop in which these entries were kept
 abbrev pub restarting : Holding → List EntryKind → Pages → List Roll → Holding
-restarting h kept pages rs = record { log = h.log ++ kept; pages = pages; rollers = rs; client_states = map abandoned_client_state h.client_states; told = h.told ++ all_abandoned 1 h.client_states; armed = None }
+restarting h kept pages rs = record { log = h.log ++ kept; pages = pages; rollers = rs; earlier = map (λ older. []) h.earlier; client_states = map abandoned_client_state h.client_states; told = h.told ++ all_abandoned 1 h.client_states; armed = None }
 
 pub restarts : (script : Workload) (h : Holding) (e : EntryKind) (stop : ArmedStop) (rs : List Roll) → IsHolding script h → IsLawful script.shape (h.log ++ kept_by stop e) → AreRestarted script (h.log ++ kept_by stop e) rs
     → IsHolding script (restarting h (kept_by stop e) (pages_with (Some stop) 1 e h.pages) rs)
@@ -135,6 +136,8 @@ restarts script h e stop rs is lawful boards =
       lawful = lawful;
       servers = boards.count;
       boards = boards.boards;
+      lists = length-map h.earlier (λ (older : List Roll). let none : List Roll = [] in none) ∙ is.lists;
+      earlier = all_cleared (IsServerBoard script (h.log ++ more)) h.earlier;
       client_states = abandoned_client_states script (h.log ++ more) 1 script.clients h.client_states (client_states_grow script h.log more 1 script.clients h.client_states is.client_states);
       told = all_append (IsStepAnswered script (h.log ++ more)) h.told (all_abandoned 1 h.client_states) (told_grow script h.log more h.told is.told)
           (told_all script (h.log ++ more) 1 script.clients h.client_states (client_states_grow script h.log more 1 script.clients h.client_states is.client_states));
@@ -146,7 +149,7 @@ pub restarted_is : (script : Workload) (h : Holding) (kept : List EntryKind) (pa
 restarted_is script h kept pages rs is boards =
     let end : ℕ = whole_groups script.shape (length (h.log ++ kept)) in
     let count : length (state_in_course h).boards ≡ script.servers = length-map h.rollers rolled_upto ∙ is.servers in
-    (λ i. record { log = h.log ++ kept; boards = (boards.at ∙ (ap (λ n. replicate n end) (sym count) ∙ sym (constant end (state_in_course h).boards))) i; sessions = abandoned_sessions h.client_states i; armed = None })
+    (λ i. record { log = h.log ++ kept; boards = (boards.at ∙ (ap (λ n. replicate n end) (sym count) ∙ sym (constant end (state_in_course h).boards))) i; earlier = cleared h.earlier i; sessions = abandoned_sessions h.client_states i; armed = None })
 
 -- a pad in which a stop strikes
 pub pad_restarts : (script : Workload) (h : Holding) (server : ℕ) (stop : ArmedStop) (rs : List Roll) → IsHolding script h → h.armed ≡ Some stop
@@ -161,7 +164,7 @@ pad_restarts script h server stop rs is armed lawful boards =
       leads = restarted_is script h (kept_by stop own) (pages_with (Some stop) 1 own h.pages) rs is boards
           ∙ ap (λ (a : Option ArmedStop). option_map_or (λ k. restarted w (record s { log = h.log ++ replicate (surviving a (missing w (length h.log))) own })) a (record s { log = h.log ++ replicate (surviving a (missing w (length h.log))) own })) (sym armed);
       ends = lost_is h ∙ ap (λ (a : Option ArmedStop). done_of h ++ (if is_some a then lost_by_stop s 0 else [])) (sym armed);
-      whole = still_whole (with_body (Some stop) 1 (spelling own)) h.pages.bodies;
+      whole = still_whole (with_body (Some stop) 1 (spelling h.pages.shape.version own)) h.pages.bodies;
     }
 
 -- ---- an append in which a stop strikes
@@ -194,11 +197,11 @@ append_lost script h client x e stop rs is armed drops own begun lawful boards =
     record {
       holding = restarts script h e stop rs is lawful boards;
       leads = restarted_is script h (kept_by stop e) (pages_with (Some stop) 1 e h.pages) rs is boards
-          ∙ ((λ i. record { log = h.log ++ none i; boards = map (λ board. whole_groups script.shape (length (h.log ++ none i))) s.boards; sessions = lost i; armed = None })
+          ∙ ((λ i. record { log = h.log ++ none i; boards = map (λ board. whole_groups script.shape (length (h.log ++ none i))) s.boards; earlier = map (λ older. []) s.earlier; sessions = lost i; armed = None })
           ∙ (ap (λ (a : Option ArmedStop). option_map_or (λ k. restarted w (record s { log = h.log ++ []; sessions = change_nth at_next_program s.sessions client })) a (record s { log = h.log ++ []; sessions = change_nth at_next_program s.sessions client })) (sym armed)
           ∙ ap (after w s (Append client)) (sym no_entry)));
       ends = lost_is h ∙ (ap (λ (b : Bool). done_of h ++ (if b then ended s client (ByEntryAt (length h.log + 1)) ++ lost_by_stop s client else lost_by_stop s 0)) (sym drops) ∙ ap (λ (a : Option ArmedStop). done_of h ++ ended_by_append a s client) (sym armed));
-      whole = still_whole (with_body (Some stop) 1 (spelling e)) h.pages.bodies;
+      whole = still_whole (with_body (Some stop) 1 (spelling h.pages.shape.version e)) h.pages.bodies;
     }
 
 -- where the session with a number is kept
@@ -268,20 +271,22 @@ append_kept script h client pos snap x run e stop rs script_is is armed keeps at
     let end : ℕ = whole_groups script.shape (length log) in
     let count : length s.boards ≡ script.servers = length-map h.rollers rolled_upto ∙ is.servers in
     let stored : IsOnDevice script log (pages_with (Some stop) 1 e h.pages) = subst (λ (l : List EntryKind). IsOnDevice script (h.log ++ l) (pages_with (Some stop) 1 e h.pages)) one (stored_after script h.log h.pages (Some stop) 1 e is.stored) in
-    let holding : IsHolding script (record { log = log; pages = pages_with (Some stop) 1 e h.pages; rollers = rs; client_states = map abandoned_client_state xs; told = (h.told ++ t ∷ []) ++ all_abandoned 1 xs; armed = None }) = record {
+    let holding : IsHolding script (record { log = log; pages = pages_with (Some stop) 1 e h.pages; rollers = rs; earlier = map (λ older. []) h.earlier; client_states = map abandoned_client_state xs; told = (h.told ++ t ∷ []) ++ all_abandoned 1 xs; armed = None }) = record {
       stored = stored;
       armed = tt;
       lawful = subst (λ (l : List EntryKind). IsLawful script.shape (h.log ++ l)) one lawful;
       servers = restart.count;
       boards = restart.boards;
+      lists = length-map h.earlier (λ (older : List Roll). let none : List Roll = [] in none) ∙ is.lists;
+      earlier = all_cleared (IsServerBoard script log) h.earlier;
       client_states = abandoned_client_states script log 1 script.clients xs client_states;
       told = all_append (IsStepAnswered script log) (h.told ++ t ∷ []) (all_abandoned 1 xs)
-          (told_grow script h.log (e ∷ []) (h.told ++ t ∷ []) (all_push (IsStepAnswered script h.log) h.told t is.told (told_is script h client snap x run (EntryAt pos) is b)))
+          (told_grow script h.log (e ∷ []) (h.told ++ t ∷ []) (all_push (IsStepAnswered script h.log) h.told t is.told (told_is script h client snap x run (EntryAt pos) tt is b)))
           (told_all script log 1 script.clients xs client_states);
     } in
-    let steps : StepsTo script h (record { log = log; pages = pages_with (Some stop) 1 e h.pages; rollers = rs; client_states = map abandoned_client_state xs; told = (h.told ++ t ∷ []) ++ all_abandoned 1 xs; armed = None }) (Append client) = record {
+    let steps : StepsTo script h (record { log = log; pages = pages_with (Some stop) 1 e h.pages; rollers = rs; earlier = map (λ older. []) h.earlier; client_states = map abandoned_client_state xs; told = (h.told ++ t ∷ []) ++ all_abandoned 1 xs; armed = None }) (Append client) = record {
       holding = holding;
-      leads = (λ i. record { log = log; boards = (restart.at ∙ (ap (λ n. replicate n end) (sym count) ∙ sym (constant end s.boards))) i; sessions = (abandoned_sessions xs ∙ ap (map abandoned) (sessions_are (appended (e ∷ []) (length h.log)) h client x y b.is next)) i; armed = None })
+      leads = (λ i. record { log = log; boards = (restart.at ∙ (ap (λ n. replicate n end) (sym count) ∙ sym (constant end s.boards))) i; earlier = cleared h.earlier i; sessions = (abandoned_sessions xs ∙ ap (map abandoned) (sessions_are (appended (e ∷ []) (length h.log)) h client x y b.is next)) i; armed = None })
           ∙ (ap (λ (a : Option ArmedStop). option_map_or (λ k. restarted w (record s { log = log; sessions = change_nth (appended (e ∷ []) (length h.log)) s.sessions client })) a (record s { log = log; sessions = change_nth (appended (e ∷ []) (length h.log)) s.sessions client })) (sym armed)
           ∙ ap (after w s (Append client)) (sym adds));
       ends = map-append ended_in_course (h.told ++ t ∷ []) (all_abandoned 1 xs)
@@ -289,9 +294,9 @@ append_kept script h client pos snap x run e stop rs script_is is armed keeps at
           ∙ (append_assoc (done_of h) (ended_in_course t ∷ []) (lost_by_stop s client)
           ∙ (ap (λ es. done_of h ++ (es ++ lost_by_stop s client)) (sym (ended_is h client snap x run (EntryAt pos) b) ∙ ap (λ n. ended s client (ByEntryAt n)) at_end)
           ∙ (ap (λ (c : Bool). done_of h ++ (if c then ended s client (ByEntryAt (length h.log + 1)) ++ lost_by_stop s client else lost_by_stop s 0)) (sym keeps) ∙ ap (λ (a : Option ArmedStop). done_of h ++ ended_by_append a s client) (sym armed)))));
-      whole = still_whole (with_body (Some stop) 1 (spelling e)) h.pages.bodies;
+      whole = still_whole (with_body (Some stop) 1 (spelling h.pages.shape.version e)) h.pages.bodies;
     } in
-    subst (λ (l : List EntryKind). StepsTo script h (record { log = l; pages = pages_with (Some stop) 1 e h.pages; rollers = rs; client_states = map abandoned_client_state xs; told = (h.told ++ t ∷ []) ++ all_abandoned 1 xs; armed = None }) (Append client)) (sym same_log) steps
+    subst (λ (l : List EntryKind). StepsTo script h (record { log = l; pages = pages_with (Some stop) 1 e h.pages; rollers = rs; earlier = map (λ older. []) h.earlier; client_states = map abandoned_client_state xs; told = (h.told ++ t ∷ []) ++ all_abandoned 1 xs; armed = None }) (Append client)) (sym same_log) steps
   where
     place_is : (n : ℕ) → 1 ≤ n → IsChangedPlace n 1 n
     place_is zero some = absurd (omega (arith, some))
@@ -303,7 +308,7 @@ append_kept script h client pos snap x run e stop rs script_is is armed keeps at
         (λ k z here. let e1 : 1 + k ≡ suc k = omega arith in ap (nth (state_in_course h).sessions) e1 ∙ nth_map (λ (z : ClientState). z.session) h.client_states (suc k) z here)
         (place_is client (nth_within h.client_states client x b.is).at_least))
 
--- ---- what a restart asks of the client_states
+-- ---- what a restart asks of the client states
 
 client_states_fit_by : (script : Workload) (log : List EntryKind) (number : ℕ) (cs : List Client) (xs : List ClientState) → AreClientStates script log number cs xs → AllByRecursion HasFewPrograms cs → AllByRecursion ClientStateFits xs
 client_states_fit_by script log number [] [] are few = tt

@@ -7,6 +7,7 @@ use Rattle.std.specs.List.{AllByRecursion}
 use Rattle.hy_base.specs.declared.record.EntryKind.{EntryKind}
 use Rattle.hy_base.specs.declared.workload.ArmedStop.{ArmedStop}
 use Rattle.hy_base.specs.declared.workload.Event.TheVariants.{Append}
+use Rattle.hy_base.specs.Entry.{FitsVersion}
 use Rattle.hy_base.specs.Log.{IsLawful}
 use Rattle.hy_base.specs.Script.{Workload, IsScript, IsClient}
 use Rattle.hy_base.proofs.NthLemmas.{All-nth}
@@ -54,13 +55,20 @@ module _ {script : Workload} {h : Holding} {client : ℕ} {e : EntryKind} (a : A
   begun = begun_at script h client a.is (append_begun script h client a.may)
 
   pub leaves : LeavesEntry h client
-  leaves = leaves_entry script h client a.is a.may
+  leaves = leaves_entry script h client a.script_is a.is a.may
 
   entry_is : begun.2.entry ≡ Some e
   entry_is =
       let step : left_entry h.client_states client ≡ begun.2.entry =
       (λ i. option_and_then (λ (y : ClientState). option_and_then (λ (r : Running). r.entry) y.running) (begun.3.is i)) ∙ ap (option_and_then (λ (r : Running). r.entry)) begun.3.running in
       sym step ∙ a.own
+
+  -- the log can hold it
+  pub appends_fit : FitsVersion h.pages.shape.version e
+  appends_fit =
+      let own : (f : EntryKind) × (begun.2.entry ≡ Some f) × FitsVersion h.pages.shape.version f = leaves begun.1 begun.2 begun.3.is begun.3.running in
+      let same : own.0 ≡ e = let f : Some own.0 ≡ Some e = sym own.1 ∙ entry_is in cc in
+      subst (FitsVersion h.pages.shape.version) same own.2
 
   left : LeftEntry script h client e
   left = left_entry_is script h client begun.0 begun.1 begun.2 e a.script_is a.is a.may begun.3 entry_is
@@ -75,12 +83,12 @@ module _ {script : Workload} {h : Holding} {client : ℕ} {e : EntryKind} (a : A
     | inl keeps ↦
         let b : BegunClientState (struck stop e h) client begun.0 begun.1 begun.2 = record { is = begun.3.is; phase = begun.3.phase; running = begun.3.running } in
         let mid_is = kept keeps begun.0 begun.1 begun.2 e b entry_is in
-        subst (λ n. StepsTo script h n (Append client)) (sym (settles.is ∙ (λ i. record { log = sym (append-nil (mid_is i).log) i; pages = (mid_is i).pages; rollers = rs; client_states = map abandoned_client_state (mid_is i).client_states; told = (mid_is i).told ++ all_abandoned 1 (mid_is i).client_states; armed = None })))
+        subst (λ n. StepsTo script h n (Append client)) (sym (settles.is ∙ (λ i. record { log = sym (append-nil (mid_is i).log) i; pages = (mid_is i).pages; rollers = rs; earlier = map (λ older. []) (mid_is i).earlier; client_states = map abandoned_client_state (mid_is i).client_states; told = (mid_is i).told ++ all_abandoned 1 (mid_is i).client_states; armed = None })))
         (append_kept script h client pos begun.0 begun.1 begun.2 e stop rs a.script_is a.is armed keeps at_end begun.3 left.own (appends_lawful stop) boards)
     | inr drops ↦
         let none : kept_by stop e ≡ [] = ap (λ (c : Bool). replicate (if c then 1 else 0) e) drops in
         let mid_is : mid ≡ struck stop e h = dropped drops in
-        subst (λ n. StepsTo script h n (Append client)) (sym (settles.is ∙ (λ i. record { log = (ap (λ (k : Holding). k.log) mid_is ∙ (sym (append-nil h.log) ∙ ap (λ l. h.log ++ l) (sym none))) i; pages = (mid_is i).pages; rollers = rs; client_states = map abandoned_client_state (mid_is i).client_states; told = (mid_is i).told ++ all_abandoned 1 (mid_is i).client_states; armed = None })))
+        subst (λ n. StepsTo script h n (Append client)) (sym (settles.is ∙ (λ i. record { log = (ap (λ (k : Holding). k.log) mid_is ∙ (sym (append-nil h.log) ∙ ap (λ l. h.log ++ l) (sym none))) i; pages = (mid_is i).pages; rollers = rs; earlier = map (λ older. []) (mid_is i).earlier; client_states = map abandoned_client_state (mid_is i).client_states; told = (mid_is i).told ++ all_abandoned 1 (mid_is i).client_states; armed = None })))
         (append_lost script h client begun.1 e stop rs a.is armed drops begun.3.is (ap is_begun begun.3.phase) (appends_lawful stop) boards)
   ]
 
@@ -90,7 +98,7 @@ module _ {script : Workload} {h : Holding} {client : ℕ} {e : EntryKind} (a : A
       let client_is : IsClient script.servers found.own = All-nth (IsClient script.servers) script.clients client found.own found.is_own a.script_is.clients in
       omega (arith, found.client_state.most, client_is.count)
 
-  -- the numbers of the client_states that are left fit
+  -- the numbers of the client states that are left fit
   pub left_fit : (stop : ArmedStop) (pos : ℕ) (mid : Holding) → (is_kept stop ≡ true → Leaves (struck stop e h) mid client pos) → (is_kept stop ≡ false → mid ≡ struck stop e h) → AllByRecursion ClientStateFits mid.client_states
   left_fit stop pos mid kept dropped = elim (cases_Bool (is_kept stop)) [
     | inl keeps ↦
@@ -105,3 +113,6 @@ module _ {script : Workload} {h : Holding} {client : ℕ} {e : EntryKind} (a : A
 
   pub struck_fits : (stop : ArmedStop) (k : Holding) → k ≡ struck stop e h → NextFits k client
   struck_fits stop k same = subst (λ (m : Holding). NextFits m client) (sym same) (next_fits script h client a.script_is a.is)
+
+  pub struck_leaves : (stop : ArmedStop) (k : Holding) → k ≡ struck stop e h → LeavesEntry k client
+  struck_leaves stop k same = subst (λ (m : Holding). LeavesEntry m client) (sym same) leaves

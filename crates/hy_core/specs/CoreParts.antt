@@ -1,5 +1,5 @@
 -- What the core keeps of a run, and how it stands for a state.
-use Rattle.std.specs.Prelude.{◌≡◌, ℕ, ◌+◌, ◌-◌, ◌%◌, ◌^◌, ◌<◌, ◌≤◌, List, [], ◌∷◌, ◌++◌, map, length, take, drop, Option, None, Some, is_none, is_some, IfSome, true, option_map, option_to_list, option_and_then, replicate, Bool, ◌&&◌, not, nat_le, nat_lt, if◌then◌else◌, ⊤}
+use Rattle.std.specs.Prelude.{◌≡◌, ℕ, ◌+◌, ◌-◌, ◌%◌, ◌^◌, ◌<◌, ◌≤◌, List, [], ◌∷◌, ◌++◌, map, length, take, drop, Option, None, Some, is_none, is_some, IfSome, true, option_map, option_to_list, option_and_then, unwrap_or, find, Result, Ok, Err, replicate, Bool, ◌&&◌, not, nat_le, nat_lt, if◌then◌else◌, ⊤}
 use Rattle.std.specs.List.{AllByRecursion}
 use Rattle.hy_base.specs.declared.record.EntryKind.{EntryKind}
 use Rattle.hy_base.specs.declared.record.EntryKind.TheVariants.{Txn}
@@ -11,13 +11,14 @@ use Rattle.hy_base.specs.declared.workload.ArmedStop.{ArmedStop}
 use Rattle.hy_base.specs.declared.workload.Phase.TheVariants.{Idle, Begun}
 use Rattle.hy_base.specs.declared.workload.Event.{Event}
 use Rattle.hy_base.specs.Lists.{nth, change_nth}
+use Rattle.hy_base.specs.Entry.{FitsVersion}
 use Rattle.hy_base.specs.Log.{IsLawful}
 use Rattle.hy_base.specs.Script.{Workload, home_of}
 use Rattle.hy_rules.specs.Validation.{live}
 use Rattle.hy_rules.specs.Exec.{Effects, exec, intention}
 use Rattle.hy_rolling.specs.Rolling.{Roll, rolled_upto, Stands}
 use Rattle.hy_base.specs.Shape.{is_within, whole_groups}
-use Rattle.hy_rules.specs.Moves.{State, surviving, client_passes, is_begun, fresh_session, after}
+use Rattle.hy_rules.specs.Moves.{State, Start, On, Past, NotYet, surviving, client_passes, is_begun, fresh_session, after}
 use Rattle.hy_rules.specs.Runs.{snap_of, Ending, ByStop, Ended, answers_to, setting_of, leaves_write, added, ended_by, is_done}
 use Rattle.hy_formats.specs.EntryFormat.{spelling}
 use Rattle.hy_memlog.specs.Pages.{Pages, IsStop, with_body, broken_log}
@@ -27,24 +28,25 @@ use Rattle.hy_core.specs.declared.parts.Parts.{Parts}
 use Rattle.hy_core.specs.declared.parts.ClientState.{ClientState}
 use Rattle.hy_core.specs.declared.parts.EndedProgram.{EndedProgram}
 use Rattle.hy_roller.specs.declared.ended.ProgramEnd.{ProgramEnd}
-use Rattle.hy_roller.specs.declared.ended.ProgramEnd.TheVariants.{EntryAt}
+use Rattle.hy_roller.specs.declared.ended.ProgramEnd.TheVariants.{EntryAt, Past as TooEarly, NotYet as TooLate}
 use Rattle.hy_roller.specs.Telling.{ending_of}
 use Rattle.hy_core.specs.Course.{Course, IsReached}
 
--- what the core keeps
+-- What the core keeps: of each server the roller of its board, and those of the boards before it, the newest first.
 pub record Holding : Type 0 where
   pub log : List EntryKind
   pub pages : Pages
   pub rollers : List Roll
+  pub earlier : List (List Roll)
   pub client_states : List ClientState
   pub told : List EndedProgram
   pub armed : Option ArmedStop
 
 abbrev pub log_held : Parts → Holding
-log_held p = record { log = p.log.items; pages = p.pages; rollers = p.rollers.items; client_states = p.client_states.items; told = p.told.items; armed = p.armed }
+log_held p = record { log = p.log.items; pages = p.pages; rollers = p.rollers.items; earlier = p.earlier.items; client_states = p.client_states.items; told = p.told.items; armed = p.armed }
 
 abbrev pub state_in_course : Holding → State
-state_in_course h = record { log = h.log; boards = map rolled_upto h.rollers; sessions = map (λ x. x.session) h.client_states; armed = h.armed }
+state_in_course h = record { log = h.log; boards = map rolled_upto h.rollers; earlier = map (map rolled_upto) h.earlier; sessions = map (λ x. x.session) h.client_states; armed = h.armed }
 
 -- how a program ended, or none where a stop ended it
 abbrev pub ending_in_course : Option ProgramEnd → Ending
@@ -76,7 +78,7 @@ pub record IsRunning (script : Workload) (log : List EntryKind) (number : ℕ) (
   pub answers : run.answers ≡ (exec program (live script.shape log snap)).0
   pub leaves : run.entry ≡ entry_left c.server number snap (exec program (live script.shape log snap)).1
 
--- a client's client_state: its next program, and what it keeps where it is begun
+-- a client's state: its next program, and what it keeps where it is begun
 pub record IsClientState (script : Workload) (log : List EntryKind) (number : ℕ) (c : Client) (x : ClientState) : Type 0 where
   pub first : 1 ≤ x.session.next
   pub most : x.session.next ≤ length c.programs + 1
@@ -85,19 +87,24 @@ pub record IsClientState (script : Workload) (log : List EntryKind) (number : �
 abbrev pub fresh_client_state : ClientState
 fresh_client_state = record { session = fresh_session; running = None }
 
--- the client_states of clients, the first of which has this number
+-- the client states of clients, the first of which has this number
 abbrev pub AreClientStates : Workload → List EntryKind → ℕ → List Client → List ClientState → Type 0
 AreClientStates script log number [] [] = ⊤
 AreClientStates script log number [] (x ∷ xs) = ⊥
 AreClientStates script log number (c ∷ cs) [] = ⊥
 AreClientStates script log number (c ∷ cs) (x ∷ xs) = IsClientState script log number c x × AreClientStates script log (number + 1) cs xs
 
--- a server's board: a roller that stands for the log up to there
+-- a server's board, or one before it: a roller that stands for the log up to there
 pub record IsServerBoard (script : Workload) (log : List EntryKind) (r : Roll) : Type 0 where
   pub shape : r.shape ≡ script.shape
   pub from_first : r.from ≡ 0
   pub within : rolled_upto r ≤ length log
   pub stands : Stands (take (rolled_upto r) log) r
+
+-- a board that has gone on to a position
+pub record RolledBoard (script : Workload) (log : List EntryKind) (rolled : Roll) (upto : ℕ) : Type 0 where
+  pub board : IsServerBoard script log rolled
+  pub at : rolled_upto rolled ≡ upto
 
 -- a program that ended, with the answers that it was given
 pub record IsStepAnswered (script : Workload) (log : List EntryKind) (t : EndedProgram) : Type 0 where
@@ -107,7 +114,7 @@ pub record IsStepAnswered (script : Workload) (log : List EntryKind) (t : EndedP
 -- the device holds the entries' spellings, unless its log is broken
 pub record IsOnDevice (script : Workload) (log : List EntryKind) (pages : Pages) : Type 0 where
   pub shape : pages.shape ≡ script.shape
-  pub bodies : IfSome pages.bodies (λ bodies. bodies ≡ map spelling log)
+  pub bodies : IfSome pages.bodies (λ bodies. bodies ≡ map (spelling script.shape.version) log)
 
 pub record IsHolding (script : Workload) (h : Holding) : Type 0 where
   pub stored : IsOnDevice script h.log h.pages
@@ -115,6 +122,8 @@ pub record IsHolding (script : Workload) (h : Holding) : Type 0 where
   pub lawful : IsLawful script.shape h.log
   pub servers : length h.rollers ≡ script.servers
   pub boards : AllByRecursion (IsServerBoard script h.log) h.rollers
+  pub lists : length h.earlier ≡ script.servers
+  pub earlier : AllByRecursion (AllByRecursion (IsServerBoard script h.log)) h.earlier
   pub client_states : AreClientStates script h.log 1 script.clients h.client_states
   pub told : AllByRecursion (IsStepAnswered script h.log) h.told
 
@@ -127,7 +136,7 @@ pub record IsCore (script : Workload) (h : Holding) : Type 0 where
 pub record StepsTo (script : Workload) (old new : Holding) (event : Event) : Type 0 where
   pub holding : IsHolding script new
   pub leads : state_in_course new ≡ after (setting_of script) (state_in_course old) event (added script (state_in_course old) event)
-  pub ends : done_of new ≡ done_of old ++ ended_by (state_in_course old) event
+  pub ends : done_of new ≡ done_of old ++ ended_by (setting_of script) (state_in_course old) event
   pub whole : is_none new.pages.bodies ≡ is_none old.pages.bodies
 
 -- whether a client's program is begun, and then whether it wrote
@@ -138,11 +147,11 @@ begun_wrote script s client = if client_passes (setting_of script) s client (λ 
 abbrev pub is_ready : Session → ℕ → ℕ → Bool
 is_ready session programs board = not (is_begun session.phase) && (nat_le session.next programs && nat_le session.last board)
 
--- a client's client_state once the program of this number has ended
+-- a client's state once the program of this number has ended
 abbrev pub departed : ℕ → ℕ → ClientState
 departed number last = record { session = record { next = number + 1; phase = Idle; last = last }; running = None }
 
--- a client's client_state, begun at a snapshot
+-- a client's state, begun at a snapshot
 pub record BegunClientState (h : Holding) (client snap : ℕ) (x : ClientState) (run : Running) : Type 0 where
   pub is : nth h.client_states client ≡ Some x
   pub phase : x.session.phase ≡ Begun snap
@@ -156,15 +165,15 @@ IsBegunAt h client = (snap : ℕ) × (x : ClientState) × (run : Running) × Beg
 abbrev pub NextFits : Holding → ℕ → Type 0
 NextFits h client = (x : ClientState) → nth h.client_states client ≡ Some x → x.session.next + 1 < 2 ^ 32
 
--- what the client's program leaves is an entry
+-- what the client's program leaves is an entry, which the log can hold
 abbrev pub LeavesEntry : Holding → ℕ → Type 0
-LeavesEntry h client = (x : ClientState) (run : Running) → nth h.client_states client ≡ Some x → x.running ≡ Some run → (e : EntryKind) × (run.entry ≡ Some e)
+LeavesEntry h client = (x : ClientState) (run : Running) → nth h.client_states client ≡ Some x → x.running ≡ Some run → (e : EntryKind) × (run.entry ≡ Some e) × FitsVersion h.pages.shape.version e
 
 -- what is told of a begun program that ends so
 abbrev pub told_in_course : ℕ → ℕ → ClientState → Running → ProgramEnd → EndedProgram
 told_in_course client snap x run end = record { client = client; number = x.session.next; snap = snap; end = Some end; answers = run.answers }
 
--- a begun client's program ends: it is told, and the client's client_state is at the next program
+-- a begun client's program ends: it is told, and the client's state is at the next program
 abbrev pub finishing : Holding → ℕ → ℕ → ClientState → Running → ProgramEnd → Holding
 finishing h client snap x run end = record h {
   client_states = change_nth (λ _. departed x.session.next x.session.last) h.client_states client;
@@ -176,7 +185,7 @@ Finishes old new client end = (snap : ℕ) (x : ClientState) (run : Running) →
 
 -- the pages with a body more, so many times, where a stop may strike in the first append
 abbrev pub pages_with : Option ArmedStop → ℕ → EntryKind → Pages → Pages
-pages_with stop count e pages = record pages { bodies = option_map (with_body stop count (spelling e)) pages.bodies }
+pages_with stop count e pages = record pages { bodies = option_map (with_body stop count (spelling pages.shape.version e)) pages.bodies }
 
 -- and its entry is appended
 abbrev pub appending_in : Holding → ℕ → ℕ → ℕ → ClientState → Running → EntryKind → Holding
@@ -209,6 +218,41 @@ pub record IsUnfinishedAt (clients : List Client) (client_states : List ClientSt
   pub is : IsUnfinished clients client_states number
   pub session_is : is.client_state.session ≡ session
   pub server_is : is.own.server ≡ server
+
+-- how a program begins: on a snapshot, or it has ended so
+abbrev pub snap_or_end : Start → Result ℕ ProgramEnd
+snap_or_end (On snap) = Ok snap
+snap_or_end (Past from) = Err (TooEarly from)
+snap_or_end (NotYet board) = Err (TooLate board)
+
+-- a client's next program ends before it is begun: it is told without answers, and the client's state is at the program after it
+abbrev pub turning_away : Holding → ℕ → ClientState → ProgramEnd → Holding
+turning_away h client x end = record h {
+  client_states = change_nth (λ _. departed x.session.next x.session.last) h.client_states client;
+  told = h.told ++ record { client = client; number = x.session.next; snap = 0; end = Some end; answers = [] } ∷ [];
+}
+
+abbrev pub TurnsAway : Holding → Holding → ℕ → ProgramEnd → Type 0
+TurnsAway old new client end = (x : ClientState) → nth old.client_states client ≡ Some x → new ≡ turning_away old client x end
+
+-- the newest of these rollers that hasn't passed a position
+abbrev pub newest_upto : ℕ → List Roll → Option Roll
+newest_upto pos rs = find (λ r. nat_le (rolled_upto r) pos) rs
+
+-- the rollers that a server keeps, the newest first
+abbrev pub kept_rollers : Holding → ℕ → List Roll
+kept_rollers h server = option_to_list (nth h.rollers server) ++ unwrap_or (nth h.earlier server) []
+
+-- A server that keeps so many boards moves on: the board before is the first of the earlier ones.
+abbrev pub keeping_rolls : ℕ → Roll → List Roll → List Roll
+keeping_rolls keeps board older = take (keeps - 1) (board ∷ older)
+
+-- its board is this roller then
+abbrev pub moving_on : Holding → ℕ → ℕ → Roll → Roll → Holding
+moving_on h server keeps own rolled = record h { rollers = change_nth (λ _. rolled) h.rollers server; earlier = change_nth (keeping_rolls keeps own) h.earlier server }
+
+abbrev pub MovesOn : Holding → Holding → ℕ → ℕ → Roll → Type 0
+MovesOn old new server keeps rolled = (own : Roll) → nth old.rollers server ≡ Some own → new ≡ moving_on old server keeps own rolled
 
 -- of a roller and of these, the furthest that hasn't passed a position
 abbrev pub furthest : ℕ → Roll → List Roll → Roll
@@ -266,11 +310,11 @@ pub record Breaking (old new : Holding) : Type 0 where
   pub is : new ≡ broken old
   pub armed : is_some old.armed ≡ true
 
--- the number after a client_state's next program is one of 32 bits
+-- the number after a client state's next program is one of 32 bits
 abbrev pub ClientStateFits : ClientState → Type 0
 ClientStateFits x = x.session.next + 1 < 2 ^ 32
 
--- a client_state whose program is lost where it was begun
+-- a client state whose program is lost where it was begun
 abbrev pub abandoned_client_state : ClientState → ClientState
 abandoned_client_state x = if is_begun x.session.phase then departed x.session.next x.session.last else x
 
@@ -285,4 +329,4 @@ all_abandoned number (x ∷ xs) = abandoned_told number x ++ all_abandoned (numb
 
 -- servers and clients restart
 pub record HasRestarted (old new : Holding) (rs : List Roll) : Type 0 where
-  pub is : new ≡ record old { rollers = rs; client_states = map abandoned_client_state old.client_states; told = old.told ++ all_abandoned 1 old.client_states; armed = None }
+  pub is : new ≡ record old { rollers = rs; earlier = map (λ older. []) old.earlier; client_states = map abandoned_client_state old.client_states; told = old.told ++ all_abandoned 1 old.client_states; armed = None }

@@ -1,6 +1,7 @@
 //! What a stop leaves, and the restart after it.
 ghost use Rattle.std.specs.Prelude.{◌≡◌, ◌⊎◌, ◌+◌, ◌-◌, ◌<◌, ◌≤◌, ◌++◌, ◌^◌, length, take, drop, vec_len, vec_capacity, Some, None, IfOk, OnOk, OnErr};
 ghost use Rattle.std.specs.List.{AllByRecursion};
+ghost use Rattle.hy_base.specs.Entry.{FitsVersion};
 ghost use Rattle.hy_base.specs.Log.{IsLawful};
 ghost use Rattle.hy_base.specs.Shape.{IsGoodShape, whole_groups};
 ghost use Rattle.hy_base.specs.Limits.{IsThreadCount};
@@ -8,6 +9,7 @@ ghost use Rattle.hy_rules.specs.Moves.{is_kept};
 ghost use Rattle.hy_memlog.specs.Pages.{IsStop};
 ghost use Rattle.hy_core.specs.CoreParts.{IsHolding, AreRestarted, HasPlaces, ClientStateFits, HasRestarted, abandoned_client_state, abandoned_told, kept_by, struck, broken, log_held};
 
+use crate::earlier::clear_all;
 use crate::parts::{ClientState, EndedProgram, Parts, roller_of};
 use hy_base::{Answers, ArmedStop, Entry, Phase, Pos, Script, Session, Shape, Shared, share_all};
 use hy_codec::encode;
@@ -113,13 +115,14 @@ pub(crate) fn strike<R: Threads + Sync, G: Gate + Sync>(
     requires room_left { HasPlaces (log_held core.old).pages 1 }
     requires stop { IsStop stop }
     requires lawful { IsLawful script.now.shape ((log_held core.old).log ++ kept_by stop entry.now) }
+    requires fits { FitsVersion (log_held core.old).pages.shape.version entry.now }
     requires threads { IsThreadCount threads }
     ensures ok { OnOk result (log_held core.new ≡ struck stop entry.now (log_held core.old)) }
     ensures boards { IfOk result (λ rollers. AreRestarted script.now ((log_held core.old).log ++ kept_by stop entry.now) rollers.items) }
     ensures places { (core.new.log ≡ core.old.log) × (core.new.told ≡ core.old.told) }
     ensures err { OnErr result ((log_held core.new ≡ log_held core.old) ⊎ (log_held core.new ≡ broken (log_held core.old))) }
 {
-    let body = encode(alloc, entry.get())?;
+    let body = encode(alloc, entry.get(), core.pages.shape().version)?;
     let rollers = restarted(rt, alloc, script, core, entry, stop, threads, gate)?;
     core.pages.stop(alloc, &body, stop)?;
     Ok(rollers)
@@ -163,7 +166,8 @@ fn abandon(alloc: Global, client_state: &mut ClientState, told: &mut Vec<EndedPr
     });
 }
 
-/// The servers and the clients restart: the boards are these, each begun program is lost, and no stop is armed.
+/// The servers and the clients restart: the boards are these, the first of a new list, each begun program is lost, and no stop
+/// is armed.
 pub(crate) fn settle(alloc: Global, core: &mut Parts, rollers: Vec<Roller>)
     requires places { vec_len core.old.told + length core.old.client_states.items ≤ vec_capacity core.old.told }
     requires few { length core.old.client_states.items ≤ 128 }
@@ -171,6 +175,7 @@ pub(crate) fn settle(alloc: Global, core: &mut Parts, rollers: Vec<Roller>)
     ensures { HasRestarted (log_held core.old) (log_held core.new) rollers.items }
 {
     core.rollers = rollers;
+    clear_all(&mut core.earlier);
     core.armed = None;
     for at in 0..core.client_states.len() {
         abandon(

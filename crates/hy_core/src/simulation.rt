@@ -1,17 +1,20 @@
 //! The core.
-ghost use Rattle.std.specs.Prelude.{◌≡◌, ◌⊎◌, ℕ, length, true, false, None, Err, IfOk, OnOk, OnErr, IsErrOf};
+ghost use Rattle.std.specs.Prelude.{◌≡◌, ◌⊎◌, ◌/◌, ◌%◌, ℕ, length, true, false, None, Err, IfOk, OnOk, OnErr, IsErrOf};
 ghost use Rattle.hy_base.specs.Limits.{IsThreadCount};
 ghost use Rattle.hy_rules.specs.Moves.{board_of, is_declared};
 ghost use Rattle.hy_rules.specs.Summary.{reads_in};
+ghost use Rattle.hy_base.specs.Rows.{Agrees};
+ghost use Rattle.hy_base.specs.Shape.{line_after};
+ghost use Rattle.hy_rules.specs.History.{live_rows};
 ghost use Rattle.hy_rules.specs.Validation.{rows, verdicts};
 ghost use Rattle.hy_rules.specs.Runs.{setting_of, step, next_event, is_finished, results_at};
 ghost use Rattle.hy_core.specs.Course.{Course, IsReached, Advances, Breaks, Follows, FollowsSome, IsRefusedAt, Extends, Completes, opened_course};
 
 use crate::moves::perform;
 use crate::parts::{Parts, board_at, may_happen, open, roller_of};
-use crate::replies::{all_replies, all_verdicts, reads_in};
+use crate::replies::{all_replies, reads_in};
 use crate::tail::next_event;
-use hy_base::{Entry, Event, Items, Pos, Replies, Script, Shared, Verdict};
+use hy_base::{Entry, Event, Items, Pos, Replies, Script, Shared, Verdicts};
 use hy_pipe::Gate;
 use hy_tree::Tree;
 use std::alloc::{AllocError, Global};
@@ -89,7 +92,8 @@ impl Core {
         &self.script
     }
 
-    /// Moves by an event. A roll of the log takes up to 16 threads, and enters the gate once for each group.
+    /// Moves by an event. A roll of the log, for a publish, a restart or a program that asks for a position, takes up to 16
+    /// threads, and enters the gate once for each group.
     ///
     /// `NotEnabled` exactly where the event may not happen; then the core is as before. `Memory`: out of memory. Then it is as
     /// before too; but where a stop had struck it is broken: its state stays, and every further event is answered by `Memory`.
@@ -201,16 +205,16 @@ impl Core {
     }
 
     /// The verdicts of a finished run's log, one for each position; a filler has none. `AllocError`: out of memory.
-    pub fn verdicts(&self, alloc: Global) -> Result<Vec<Option<Verdict>>, AllocError>
+    pub fn verdicts(&self, alloc: Global) -> Result<Verdicts, AllocError>
         requires finished { is_finished self.now.script self.now.state ≡ true }
-        ensures { IfOk result (λ vs. vs.items ≡ verdicts self.now.script.shape self.now.state.log (length self.now.state.log)) }
+        ensures { IfOk result (λ vs. vs ≡ verdicts self.now.script.shape self.now.state.log (length self.now.state.log)) }
     {
         // The shape of a script is good.
         let _shape = self.script.shape();
         let Some(roller) = roller_of(&self.parts.rollers, 1) else {
             unreachable!();
         };
-        all_verdicts(alloc, roller)
+        roller.kept_verdicts(alloc)
     }
 
     /// How many of the programs that ended only read.
@@ -227,11 +231,14 @@ impl Core {
         self.parts.log.as_slice()
     }
 
-    /// The position up to which a server has published, and the rows there, lent.
+    /// The position up to which a server has published, and the rows there, lent: all of them, and within a window perhaps
+    /// tombstones at or below the line besides; at a window's end just these rows.
     pub fn board(&self, server: u8) -> (Pos, &Tree)
         requires declared { is_declared (setting_of self.now.script) server ≡ true }
         ensures at { result.0 ≡ board_of self.now.state server }
-        ensures rows { result.1.now ≡ rows self.now.script.shape self.now.state.log (board_of self.now.state server) }
+        ensures rows { Agrees (line_after self.now.script.shape (board_of self.now.state server / self.now.script.shape.group)) result.1.now (rows self.now.script.shape self.now.state.log (board_of self.now.state server)) }
+        ensures window_end { (board_of self.now.state server / self.now.script.shape.group) % self.now.script.shape.window ≡ 0 → result.1.now ≡ rows self.now.script.shape self.now.state.log (board_of self.now.state server) }
+        ensures live { live_rows result.1.now ≡ live_rows (rows self.now.script.shape self.now.state.log (board_of self.now.state server)) }
     {
         // The shape of a script is good.
         let _shape = self.script.shape();

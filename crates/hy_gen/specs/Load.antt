@@ -1,7 +1,8 @@
 -- The script of a load: eight clients on four servers, whose programs add to numbers, look at them, and put values beside them.
-use Rattle.std.specs.Prelude.{ℕ, ◌+◌, ◌-◌, ◌*◌, ◌/◌, ◌%◌, List, [], ◌∷◌, map, decimal, ◌==◌, if◌then◌else◌}
+use Rattle.std.specs.Prelude.{ℕ, ◌+◌, ◌-◌, ◌*◌, ◌/◌, ◌%◌, List, [], ◌∷◌, map, decimal, ◌==◌, if◌then◌else◌, None}
 use Rattle.std.specs.List.{range_with_len}
 use Rattle.hy_base.specs.declared.layout.Shape.{Shape}
+use Rattle.hy_base.specs.declared.record.Isolation.TheVariants.{Serializable}
 use Rattle.hy_base.specs.declared.workload.Command.{Command}
 use Rattle.hy_base.specs.declared.workload.Command.TheVariants.{Get, Put, Add, Scan}
 use Rattle.hy_base.specs.declared.workload.Program.{Program}
@@ -28,7 +29,7 @@ abbrev pub commands_of : ℕ → Draw → List Command
 commands_of number d = commands_by number (d.kind % 4) (d.first % 500) (d.second % 500)
 
 abbrev pub program_numbered : ℕ → ℕ → Program
-program_numbered seed number = record { commands = commands_of number (draw_of seed number) }
+program_numbered seed number = record { isolation = Serializable; as_of = None; commands = commands_of number (draw_of seed number) }
 
 -- Programs are dealt out to the clients in turn: client 1 has the programs 0, 8, 16 and so on, client 2 those one further.
 abbrev pub program_count : ℕ → ℕ → ℕ
@@ -41,10 +42,10 @@ abbrev pub client_of : ℕ → ℕ → ℕ → Client
 client_of seed size number = record { server = home number; programs = programs_of seed size number }
 
 abbrev pub shape_for : ℕ → Shape
-shape_for size = record { group = 4; window = 4; cap = 8 * size }
+shape_for size = record { group = 4; window = 4; cap = 8 * size; version = 1; horizon = None }
 
 abbrev pub script_of : ℕ → ℕ → Workload
-script_of seed size = record { shape = shape_for size; servers = 4; clients = map (client_of seed size) (range_with_len 1 8) }
+script_of seed size = record { shape = shape_for size; servers = 4; keeps = 1; clients = map (client_of seed size) (range_with_len 1 8) }
 
 -- the schedule, for the programs of a seed
 abbrev pub schedule_of : ℕ → ℕ → List Event

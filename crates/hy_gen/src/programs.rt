@@ -5,7 +5,7 @@ ghost use Rattle.hy_gen.specs.Rounds.{home};
 ghost use Rattle.hy_gen.specs.Load.{value_numbered, commands_of, programs_of, client_of, program_count};
 
 use crate::drawing::{Draw, generator_at, next_draw};
-use hy_base::{Client, Command, Commands, Items, Program, Programs, Value, ValueError};
+use hy_base::{Client, Command, Commands, Isolation, Items, Program, Programs, Value, ValueError};
 use itoa::Buffer;
 use std::alloc::{AllocError, Global};
 
@@ -14,6 +14,9 @@ pub const CLIENTS: u8 = 8;
 
 /// How many servers there are.
 pub const SERVERS: u8 = 4;
+
+/// How many of its last boards each server keeps.
+pub const KEEPS: u8 = 1;
 
 /// The server of a client.
 pub fn home(client: u8) -> u8
@@ -97,7 +100,11 @@ fn programs(alloc: Global, seed: u64, size: u32, client: u8) -> Result<Programs,
     for turn in 0..program_count(size, client) {
         let drawn = next_draw(&mut words);
         let commands = commands(alloc, 8 * turn + first, drawn)?;
-        programs.push(Program { commands })?;
+        programs.push(Program {
+            isolation: Isolation::Serializable,
+            as_of: None,
+            commands,
+        })?;
         words.advance(21);
     }
     Ok(programs)

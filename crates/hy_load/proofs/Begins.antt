@@ -6,13 +6,14 @@ use Rattle.std.proofs.lemmas.Bool.{eqb-true, eqb-false, ltb-true, ltb-false, le-
 use Rattle.hy_base.specs.declared.record.EntryKind.{EntryKind}
 use Rattle.hy_base.specs.declared.workload.Event.TheVariants.{Begin}
 use Rattle.hy_base.specs.declared.workload.Session.{Session}
-use Rattle.hy_rules.specs.Moves.{State, begun_at, board_of, home_server, may_begin}
+use Rattle.hy_base.specs.Lists.{change_nth}
+use Rattle.hy_rules.specs.Moves.{State, begun_at, board_of, home_server, may_begin, started}
 use Rattle.hy_rules.specs.Runs.{may_happen, run, setting_of}
 use Rattle.hy_rules.proofs.Backward.{next_state}
 use Rattle.hy_gen.specs.Load.{program_count, script_of}
 use Rattle.hy_gen.specs.Rounds.{begin_events, home, is_beginning, is_first, number_in, period}
 use Rattle.hy_load.proofs.Spots.{change_middle, nth_middle, run_both, run_one}
-use Rattle.hy_load.proofs.Steady.{AreAll, IsAmid, IsBeforeRound, IsBusy, IsIdleBehind, board_before, board_is, boards_before, calm_state, load_home, passes, program_total, turn_in}
+use Rattle.hy_load.proofs.Steady.{AreAll, IsAmid, IsBeforeRound, IsBusy, IsIdleBehind, board_before, board_is, boards_before, calm_state, load_home, passes, home_total, starts_on_board, turn_in}
 use Rattle.hy_load.proofs.Turns.{home_within}
 
 -- ---- one client
@@ -56,12 +57,14 @@ one_begins seed readers t client log done x todo least most at before = go (is_f
     enters : is_beginning size t client ≡ true → IsIdleBehind (min turn count) x → turn < count → ClientBegins seed readers t client log done x todo
     enters begins idle few =
         let board : ℕ = board_of s (home_server (setting_of (script_of seed size)) client) in
-        let fits : nat_le x.next (load_home seed size client).programs ≡ true = le-leb _ _ (let n = idle.next in omega (arith, n, few, program_total seed size client)) in
+        let fits : nat_le x.next (length (load_home seed size client).programs) ≡ true = le-leb _ _ (let n = idle.next in omega (arith, n, few, home_total seed size client)) in
         let low : nat_le x.last (board_of s (home client)) ≡ true = le-leb _ _ (let l = before.last in omega (arith, l, here)) in
         let test : may_begin s (load_home seed size client) x ≡ true = rw (idle.phase, fits, low) refl in
         let may : may_happen (script_of seed size) s (Begin client) ≡ true =
         ap (λ b. b && true) (passes seed size client log boards (done ++ x ∷ todo) x (may_begin s) least most (nth_middle done x todo client at) ∙ test) in
-        let next_is : next_state (script_of seed size) s (Begin client) ≡ calm_state log boards (done ++ begun_at board x ∷ todo) = ap (calm_state log boards) (change_middle (begun_at board) done x todo client at) in
+        let next_is : next_state (script_of seed size) s (Begin client) ≡ calm_state log boards (done ++ begun_at board x ∷ todo) =
+        ap (λ start. calm_state log boards (change_nth (started start) (done ++ x ∷ todo) client)) (starts_on_board seed size client log boards (done ++ x ∷ todo) x least most (nth_middle done x todo client at))
+        ∙ ap (calm_state log boards) (change_middle (begun_at board) done x todo client at) in
         record {
           session = begun_at board x;
           amid = record { last = before.last; does = inr (record { snap = board; phase = refl; next = let n = idle.next in omega (arith, n, few); left = few }) };

@@ -1,5 +1,5 @@
 -- The end of a round: its last group is completed, and servers publish.
-use Rattle.std.proofs.Common.{◌≡◌, ◌∙◌, ℕ, zero, suc, ◌+◌, ◌-◌, ◌*◌, ◌/◌, ◌%◌, ◌≤◌, Bool, true, false, List, [], ◌∷◌, ◌++◌, length, map, refl, sym, ap, arith, Some, append_assoc, length-append}
+use Rattle.std.proofs.Common.{None, ◌≡◌, ◌∙◌, ℕ, zero, suc, ◌+◌, ◌-◌, ◌*◌, ◌/◌, ◌%◌, ◌≤◌, Bool, true, false, List, [], ◌∷◌, ◌++◌, length, map, refl, sym, ap, arith, Some, append_assoc, length-append}
 use Rattle.std.specs.Prelude.{flat_map, nat_lt, nat_le, replicate, unwrap_or, ◌&&◌, ◌==◌, if◌then◌else◌}
 use Rattle.std.specs.List.{range_with_len, AllByRecursion}
 use Rattle.std.proofs.lemmas.Bool.{eqb-true, eqb-false, eq-eqb, ltb-false, le-leb}
@@ -17,7 +17,7 @@ use Rattle.hy_load.specs.LoadLaws.{EntryCounts, LogCounts}
 use Rattle.hy_load.proofs.Bounds.{len_is_whole, len_rises}
 use Rattle.hy_load.proofs.Ends.{entries_both, entries_more}
 use Rattle.hy_load.proofs.Spots.{change_middle, nth_middle, run_both, run_one}
-use Rattle.hy_load.proofs.Steady.{board_before, calm_state}
+use Rattle.hy_load.proofs.Steady.{board_before, calm_state, none_kept}
 use Rattle.hy_load.proofs.Turns.{IsPeriod, is_period, start}
 
 -- ---- fillers
@@ -92,7 +92,7 @@ one_publishes seed readers t server log done todo sessions least most at long = 
         let within : nat_le upto (length log) ≡ true = le-leb upto (length log) (omega (arith, long)) in
         let may : may_happen (script_of seed (length readers)) s (Publish server upto) ≡ true = λ i. ((low i && high i) && (at_end i && (ahead i && within i))) && true in
         let next_is : next_state (script_of seed (length readers)) s (Publish server upto) ≡ calm_state log (done ++ board_before readers (t + 1) server ∷ todo) sessions =
-        ap (λ bs. calm_state log bs sessions) (change_middle (λ _. upto) done old todo server at) ∙ ap (λ b. calm_state log (done ++ b ∷ todo) sessions) (sym (now is)) in
+        (λ i. record { log = log; boards = (change_middle (λ _. upto) done old todo server at ∙ ap (λ b. done ++ b ∷ todo) (sym (now is))) i; earlier = none_kept (board_of s server) server least most i; sessions = sessions; armed = None }) in
         rw events (run_one (script_of seed (length readers)) s (Publish server upto) may ∙ ap (λ n. Some n) next_is)
     last is false past =
         let events : publishes (log_len readers) t server ≡ [] = by_board is ∙ ap (λ b. if b then Publish server upto ∷ [] else []) past in

@@ -8,8 +8,10 @@ use Rattle.hy_base.specs.declared.record.EntryKind.{EntryKind}
 use Rattle.hy_base.specs.declared.record.EntryKind.TheVariants.{Filler, Txn}
 use Rattle.hy_base.specs.declared.record.Row.{Row}
 use Rattle.hy_base.specs.declared.record.Write.{Write}
-use Rattle.hy_base.specs.Rows.{Each, rows_at}
+use Rattle.hy_base.specs.Rows.{Each, newest, rows_at}
+use Rattle.hy_base.specs.Shape.{line_after}
 use Rattle.hy_base.proofs.EachLemmas.{Each-append}
+use Rattle.hy_base.proofs.PurgeLemmas.{Each-purged}
 use Rattle.hy_base.proofs.RowLemmas.{Each-newest}
 use Rattle.hy_rules.specs.History.{committed_at, flagged_history, pairs_of, writes_at}
 use Rattle.hy_base.specs.Verdicts.{is_commit}
@@ -49,7 +51,9 @@ history_counts bound pos (e ∷ es) (flag ∷ flags) a =
 
 -- the rows of any part of the log
 pub rows_of_log : (bound : ℕ) (s : Shape) (log : List EntryKind) (pos : ℕ) → AllByRecursion (EntryCounts bound) log → Each (RowCounts bound) (rows s log pos)
-rows_of_log bound s log pos a = Each-newest (RowCounts bound) _ (history_counts bound 1 log (map is_commit (verdicts_after s log (pos / s.group))) a)
+rows_of_log bound s log pos a =
+    let flags = map is_commit (verdicts_after s log (pos / s.group)) in
+    Each-purged (RowCounts bound) (line_after s (pos / s.group)) (newest (flagged_history 1 log flags)) (Each-newest (RowCounts bound) (flagged_history 1 log flags) (history_counts bound 1 log flags a))
 
 -- the value that is found at a counted key
 found_next : (bound key : ℕ) (r : Row) (rs : List Row) → key < 500 → RowCounts bound r → (v : Option (List ℕ)) → r.value ≡ v → IsCountUpTo bound (value_in (pairs_of rs) key)

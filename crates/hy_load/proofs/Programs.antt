@@ -1,8 +1,9 @@
 -- What a program of a load leaves: one that adds or puts leaves a write, and one that only gets leaves none.
 use Rattle.std.proofs.Common.{◌≡◌, ℕ, zero, suc, ◌+◌, ◌%◌, ◌^◌, ◌<◌, ◌≤◌, Bool, true, false, List, [], ◌∷◌, length, refl, sym, subst, arith, inl, inr, Option, Some, None, lt-ltb}
 use Rattle.std.proofs.lemmas.Bool.{cases_eq, cases_order, eq-eqb, ne_eqb, le-ltb}
-use Rattle.std.specs.Prelude.{decimal, find, is_some, nat_lt, ◌==◌, if◌then◌else◌}
+use Rattle.std.specs.Prelude.{decimal, find, nat_lt, ◌==◌, if◌then◌else◌}
 use Rattle.std.specs.List.{AllByRecursion}
+use Rattle.hy_base.specs.declared.record.Isolation.TheVariants.{Serializable}
 use Rattle.hy_base.specs.declared.record.Write.{Write}
 use Rattle.hy_base.specs.declared.report.Answer.{Answer}
 use Rattle.hy_base.specs.declared.report.Answer.TheVariants.{Sum}
@@ -11,7 +12,7 @@ use Rattle.hy_base.specs.declared.workload.Command.TheVariants.{Add}
 use Rattle.hy_base.specs.Entry.{write_before}
 use Rattle.hy_base.specs.Lists.{put}
 use Rattle.hy_base.proofs.NumberLemmas.{number_of_decimal}
-use Rattle.hy_rules.specs.Exec.{Effects, no_effects, own_write, perform, perform_all, exec, seen, sum_at, sum_of, value_in, with_point, with_sum}
+use Rattle.hy_rules.specs.Exec.{Effects, no_effects, own_write, perform, perform_all, exec, is_unrecorded, seen, sum_at, sum_of, value_in, with_point, with_sum}
 use Rattle.hy_gen.specs.declared.drawing.Draw.{Draw}
 use Rattle.hy_gen.specs.Draws.{draw_of, reads_only}
 use Rattle.hy_gen.specs.Load.{commands_by, program_numbered, value_numbered}
@@ -87,7 +88,7 @@ sum_put : (bound key : ℕ) (e : Effects) (a : Answer) → key < 500 → WritesC
 sum_put bound key e a low ws s =
     let sum : ℕ = s.sum in
     let w : Write = record { key = key; value = Some (decimal sum) } in
-    let same : (with_point key e).writes ≡ e.writes = point_keeps (is_some (own_write e key)) key e in
+    let same : (with_point key e).writes ≡ e.writes = point_keeps (is_unrecorded key e) key e in
     rw s.is (subst (λ (xs : List Write). IsPut bound (put write_before w xs)) (sym same) (put_counts bound w e.writes (λ h. (sum, s.least, refl)) ws))
 
 -- an add of one to a counted key
@@ -115,10 +116,10 @@ value_leaves : (bound key : ℕ) (v : List ℕ) → ProgramLeaves false bound (r
 value_leaves bound key v = record { none = λ e. cc e; some = λ e. omega arith; counts = (λ low. absurd (omega (arith, low)), tt) }
 
 by_kind : (number kind key other bound : ℕ) (pairs : List Pair) → kind < 4 → key < 500 → other < 500 → bound + 2 < 2 ^ 64 → PairsCount bound pairs
-    → ProgramLeaves (kind == 3) (bound + 2) (perform_all pairs no_effects (commands_by number kind key other)).1.writes
+    → ProgramLeaves (kind == 3) (bound + 2) (perform_all pairs (no_effects Serializable) (commands_by number kind key other)).1.writes
 by_kind number zero key other bound pairs few low lower small p =
-    let first = perform pairs no_effects (Add key 1) in
-    let one : IsPut (bound + 1) first.1.writes = add_put bound key pairs no_effects low (omega (arith, small)) p tt in
+    let first = perform pairs (no_effects Serializable) (Add key 1) in
+    let one : IsPut (bound + 1) first.1.writes = add_put bound key pairs (no_effects Serializable) low (omega (arith, small)) p tt in
     let two : IsPut (bound + 1 + 1) (perform pairs first.1 (Add other 1)).1.writes = add_put (bound + 1) other pairs first.1 lower (omega (arith, small)) (more_pairs bound pairs p) one.counts in
     let both : bound + 1 + 1 ≡ bound + 2 = omega arith in
     put_leaves (bound + 2) _ (subst (λ (b : ℕ). IsPut b (perform pairs first.1 (Add other 1)).1.writes) both two)

@@ -34,7 +34,7 @@ pub struct MemDisk {
 impl MemDisk {
     ghost use Rattle.hy_mem.specs.MemDisk.{content_of, plan_of, room_of, HasRoom, Strikes};
 
-    /// A device with these bytes, all of them synced, and without room. The calls numbered in `fails`, from 1, fail. Want
+    /// A device with these bytes, all of them synced, and without room. The calls numbered in `fails`, from 1, fail. Out
     /// of memory is the one error.
     pub fn new(alloc: Global, bytes: &[u8], fails: &[u64]) -> Result<MemDisk, AllocError>
         ensures content { IfOk result (λ disk. content_of disk ≡ settled bytes.now) }

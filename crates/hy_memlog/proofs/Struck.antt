@@ -6,13 +6,14 @@ use Rattle.std.proofs.lemmas.Bool.{cases_lt, cases_eq}
 use Rattle.std.proofs.Math.Bool.{and-false}
 use Rattle.hy_base.specs.declared.layout.Shape.{Shape}
 use Rattle.hy_base.specs.declared.workload.ArmedStop.{ArmedStop}
+use Rattle.hy_formats.specs.declared.header.Header.{Header}
 use Rattle.hy_rules.specs.Moves.{is_kept}
 use Rattle.hy_disk.specs.Content.{Content}
 use Rattle.hy_disk.specs.Stops.{stopped}
 use Rattle.hy_log.specs.declared.log.AppendError.{AppendError}
 use Rattle.hy_log.specs.declared.log.AppendError.TheVariants as appending
-use Rattle.hy_log.specs.View.{LogView}
-use Rattle.hy_formats.specs.LogFormat.{page_count}
+use Rattle.hy_log.specs.View.{LogView, header_of}
+use Rattle.hy_formats.specs.LogFormat.{page_count, places_of, uncut}
 use Rattle.hy_formats.specs.LogDevice.{Holds}
 use Rattle.hy_mem.specs.declared.memory.MemDisk.{MemDisk}
 use Rattle.hy_mem.specs.MemDisk.{HasRoom, Strikes}
@@ -23,18 +24,18 @@ abbrev pub Appended : Type 0
 Appended = Result ℕ AppendError
 
 -- The append has failed, and the stop leaves the bodies before, or these and the new one, as it keeps it.
-pub record IsStruck (shape : Shape) (bodies : List (List ℕ)) (body : List ℕ) (stop : ArmedStop) (result : Appended) (content : Content) : Type 0 where
+pub record IsStruck (header : Header) (bodies : List (List ℕ)) (body : List ℕ) (stop : ArmedStop) (result : Appended) (content : Content) : Type 0 where
   pub failed : result ≡ Err appending.Device
-  pub left : Holds shape (with_body (Some stop) 1 body bodies) (stopped stop.pattern content)
+  pub left : Holds header (with_body (Some stop) 1 body bodies) (stopped stop.pattern content)
 
 -- in one of the first two calls
-abbrev pub Behind : Shape → List (List ℕ) → Appended → Content → Type 0
-Behind shape bodies result content = (result ≡ Err appending.Device) × ((pattern : ℕ) → Holds shape bodies (stopped pattern content))
+abbrev pub Behind : Header → List (List ℕ) → Appended → Content → Type 0
+Behind header bodies result content = (result ≡ Err appending.Device) × ((pattern : ℕ) → Holds header bodies (stopped pattern content))
 
 -- in one of the last two
-abbrev pub AtGate : Shape → List (List ℕ) → List ℕ → Appended → Content → Type 0
-AtGate shape bodies body result content =
-    (result ≡ Err appending.Device) × ((pattern : ℕ) → pattern ≢ 1 → Holds shape bodies (stopped pattern content)) × Holds shape (bodies ++ body ∷ []) (stopped 1 content)
+abbrev pub AtGate : Header → List (List ℕ) → List ℕ → Appended → Content → Type 0
+AtGate header bodies body result content =
+    (result ≡ Err appending.Device) × ((pattern : ℕ) → pattern ≢ 1 → Holds header bodies (stopped pattern content)) × Holds header (bodies ++ body ∷ []) (stopped 1 content)
 
 by_kept : (stop : ArmedStop) (kept : Bool) (body : List ℕ) (bodies : List (List ℕ)) → is_kept stop ≡ kept → with_body (Some stop) 1 body bodies ≡ bodies ++ replicate (if kept then 1 else 0) body
 by_kept stop kept body bodies is = ap (λ (b : Bool). bodies ++ replicate (if b then 1 else 0) body) is
@@ -45,13 +46,13 @@ dropped stop body bodies is = sym (by_kept stop false body bodies is ∙ append-
 kept : (stop : ArmedStop) (body : List ℕ) (bodies : List (List ℕ)) → is_kept stop ≡ true → bodies ++ body ∷ [] ≡ with_body (Some stop) 1 body bodies
 kept stop body bodies is = sym (by_kept stop true body bodies is)
 
-pub struck : (shape : Shape) (bodies : List (List ℕ)) (body : List ℕ) (stop : ArmedStop) (result : Appended) (content : Content) → IsStop stop
-    → (stop.call ≤ 2 → Behind shape bodies result content) → (3 ≤ stop.call → AtGate shape bodies body result content) → IsStruck shape bodies body stop result content
-struck shape bodies body stop result content is behind gate = elim (cases_lt stop.call 3) [
+pub struck : (header : Header) (bodies : List (List ℕ)) (body : List ℕ) (stop : ArmedStop) (result : Appended) (content : Content) → IsStop stop
+    → (stop.call ≤ 2 → Behind header bodies result content) → (3 ≤ stop.call → AtGate header bodies body result content) → IsStruck header bodies body stop result content
+struck header bodies body stop result content is behind gate = elim (cases_lt stop.call 3) [
   | inl early ↦
-      let b : Behind shape bodies result content = behind (omega (arith, early)) in
+      let b : Behind header bodies result content = behind (omega (arith, early)) in
       let no : is_kept stop ≡ false = early_drops stop early in
-      record { failed = b.0; left = subst (λ (bs : List (List ℕ)). Holds shape bs (stopped stop.pattern content)) (dropped stop body bodies no) (b.1 stop.pattern) }
+      record { failed = b.0; left = subst (λ (bs : List (List ℕ)). Holds header bs (stopped stop.pattern content)) (dropped stop body bodies no) (b.1 stop.pattern) }
   | inr late ↦ at_gate (gate (omega (arith, late))) (omega (arith, late)) (cases_eq stop.pattern 1)
 ]
   where
@@ -69,15 +70,15 @@ struck shape bodies body stop result content is behind gate = elim (cases_lt sto
         let no : (s.pattern == 1) ≡ false = grind (arith, other) in
         ap (λ (b : Bool). nat_le 3 s.call && b) no ∙ and-false (nat_le 3 s.call)
 
-    at_gate : AtGate shape bodies body result content → 3 ≤ stop.call → (stop.pattern ≡ 1) ⊎ (stop.pattern ≢ 1) → IsStruck shape bodies body stop result content
+    at_gate : AtGate header bodies body result content → 3 ≤ stop.call → (stop.pattern ≡ 1) ⊎ (stop.pattern ≢ 1) → IsStruck header bodies body stop result content
     at_gate g late (inl one) = record {
       failed = g.0;
-      left = subst (λ (bs : List (List ℕ)). Holds shape bs (stopped stop.pattern content)) (kept stop body bodies (late_keeps stop late one))
-          (subst (λ (n : ℕ). Holds shape (bodies ++ body ∷ []) (stopped n content)) (sym one) g.2);
+      left = subst (λ (bs : List (List ℕ)). Holds header bs (stopped stop.pattern content)) (kept stop body bodies (late_keeps stop late one))
+          (subst (λ (n : ℕ). Holds header (bodies ++ body ∷ []) (stopped n content)) (sym one) g.2);
     }
     at_gate g late (inr other) = record {
       failed = g.0;
-      left = subst (λ (bs : List (List ℕ)). Holds shape bs (stopped stop.pattern content)) (dropped stop body bodies (late_drops stop other)) (g.1 stop.pattern other);
+      left = subst (λ (bs : List (List ℕ)). Holds header bs (stopped stop.pattern content)) (dropped stop body bodies (late_drops stop other)) (g.1 stop.pattern other);
     }
 
 -- ---- an append on a device on which a call was ordered to fail
@@ -89,25 +90,27 @@ IsSame armed log = armed ≡ record log { disk = armed.disk }
 -- the append's clauses on the order
 abbrev pub WhereOrdered : LogView MemDisk → ℕ → ℕ → ℕ → Type 0 → Type 0
 WhereOrdered armed size low high P =
-    length armed.bodies ≢ armed.shape.cap → armed.stopped ≡ None → (k : ℕ) → low ≤ k → k ≤ high → Strikes armed.disk k → HasRoom armed.disk (k - 1) (1 + 256 * page_count size) → P
+    length armed.bodies ≢ places_of (header_of armed) → armed.stopped ≡ None → (k : ℕ) → low ≤ k → k ≤ high → Strikes armed.disk k → HasRoom armed.disk (k - 1) (1 + 256 * page_count size) → P
 
 pub strike_leaves : (log armed : LogView MemDisk) (body : List ℕ) (stop : ArmedStop) (call : ℕ) (result : Appended) (content : Content)
     → HasRoomFor (length body) 1 log → length log.bodies < log.shape.cap → IsStop stop → call ≡ stop.call → IsSame armed log → Strikes armed.disk call
     → ((b : ℕ) → HasRoom log.disk call b → HasRoom armed.disk (call - 1) b)
-    → WhereOrdered armed (length body) 1 2 (Behind armed.shape armed.bodies result content)
-    → WhereOrdered armed (length body) 3 4 (AtGate armed.shape armed.bodies body result content)
-    → IsStruck log.shape log.bodies body stop result content
+    → WhereOrdered armed (length body) 1 2 (Behind (header_of armed) armed.bodies result content)
+    → WhereOrdered armed (length body) 3 4 (AtGate (header_of armed) armed.bodies body result content)
+    → IsStruck (uncut log.shape) log.bodies body stop result content
 strike_leaves log armed body stop call result content ready some is_stop is same strikes room behind gate =
     let pages : ℕ = 1 + 256 * page_count (length body) in
     let shape : armed.shape ≡ log.shape = ap (λ (v : LogView MemDisk). v.shape) same in
+    let from : armed.from ≡ 0 = ap (λ (v : LogView MemDisk). v.from) same ∙ ready.steady.whole in
+    let header : header_of armed ≡ uncut log.shape = λ i. record { shape = shape i; from = from i } in
     let bodies : armed.bodies ≡ log.bodies = ap (λ (v : LogView MemDisk). v.bodies) same in
-    let more : length armed.bodies ≢ armed.shape.cap = λ full. omega (arith, full, some, ap length bodies, ap (λ (s : Shape). s.cap) shape) in
+    let more : length armed.bodies ≢ places_of (header_of armed) = λ full. omega (arith, full, some, ap length bodies, ap (λ (s : Shape). s.cap) shape) in
     let running : armed.stopped ≡ None = ap (λ (v : LogView MemDisk). v.stopped) same ∙ ready.steady.running in
     let least : 1 ≤ call = omega (arith, is, is_stop.call.at_least) in
     let most : call ≤ 4 = omega (arith, is, is_stop.call.at_most) in
     let left : HasRoom armed.disk (call - 1) pages = room pages (room_shrinks log.disk call (4 * 1) pages (1 * (1 + 256 * page_count (length body))) ready.pages (omega (arith, most)) (omega arith)) in
-    subst (λ (k : Shape × List (List ℕ)). IsStruck k.0 k.1 body stop result content) (λ i. (shape i, bodies i))
-    (struck armed.shape armed.bodies body stop result content is_stop
+    subst (λ (k : Header × List (List ℕ)). IsStruck k.0 k.1 body stop result content) (λ i. (header i, bodies i))
+    (struck (header_of armed) armed.bodies body stop result content is_stop
     (λ early. behind more running call least (omega (arith, is, early)) strikes left)
     (λ late. gate more running call (omega (arith, is, late)) most strikes left))
 

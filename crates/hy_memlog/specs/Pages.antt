@@ -15,8 +15,9 @@ pub record Pages : Type 0 where
   pub shape : Shape
   pub bodies : Option (List (List ℕ))
 
--- nothing is ordered to fail, nothing has failed, and no body waits to be written
+-- the log wasn't cut, nothing is ordered to fail, nothing has failed, and no body waits to be written
 pub record IsSteady (log : LogView MemDisk) : Type 0 where
+  pub whole : log.from ≡ 0
   pub running : log.stopped ≡ None
   pub nothing_waits : log.batch ≡ []
   pub unarmed : IsUnarmed (Strikes log.disk)

@@ -43,6 +43,13 @@ impl MemLog {
         })
     }
 
+    /// The log's shape.
+    pub fn shape(&self) -> Shape
+        ensures { result ≡ self.now.shape }
+    {
+        self.shape
+    }
+
     /// Whether the log is broken.
     pub fn is_broken(&self) -> bool
         ensures { result ≡ is_none self.now.bodies }
@@ -54,7 +61,7 @@ impl MemLog {
     ///
     /// `AllocError`: out of memory, or the log is broken. The log is as before.
     pub fn append(&mut self, body: &[u8], count: usize) -> Result<(), AllocError>
-        requires body { IsBody body.now }
+        requires body { IsBody self.old.shape.version body.now }
         requires few { count ≤ 8 }
         requires room_left { IfSome self.old.bodies (λ bodies. length bodies + count ≤ self.old.shape.cap) }
         ensures ok { OnOk result (self.new ≡ record self.old { bodies = option_map (with_body None count body.now) self.old.bodies }) }
@@ -75,7 +82,7 @@ impl MemLog {
     /// `AllocError`: out of memory, or the log is broken. The log is as before, or is broken from now on where the stop had
     /// struck.
     pub fn stop(&mut self, alloc: Global, body: &[u8], stop: ArmedStop) -> Result<(), AllocError>
-        requires body { IsBody body.now }
+        requires body { IsBody self.old.shape.version body.now }
         requires room_left { IfSome self.old.bodies (λ bodies. length bodies < self.old.shape.cap) }
         requires stop { IsStop stop }
         ensures ok { OnOk result (self.new ≡ record self.old { bodies = option_map (with_body (Some stop) 1 body.now) self.old.bodies }) }

@@ -1,7 +1,7 @@
 //! The page log under it: room before each append, a stop in one, and what is opened then.
 ghost use Rattle.std.specs.Prelude.{◌≡◌, ◌+◌, ◌*◌, ◌<◌, ◌≤◌, ◌++◌, [], ◌∷◌, ℕ, List, length, replicate, Ok, Some, IfOk, IfErr, OnOk};
 ghost use Rattle.hy_base.specs.Shape.{IsGoodShape};
-ghost use Rattle.hy_formats.specs.LogFormat.{IsBody};
+ghost use Rattle.hy_formats.specs.LogFormat.{IsBody, uncut};
 ghost use Rattle.hy_formats.specs.LogDevice.{Holds};
 ghost use Rattle.hy_disk.specs.Strikes.{IsUnarmed};
 ghost use Rattle.hy_mem.specs.MemDisk.{content_of, HasRoom, Strikes};
@@ -17,7 +17,7 @@ use std::alloc::{AllocError, Global};
 
 /// Makes the places and the room for a body that is appended so many times. Where memory runs out the log is as before.
 pub fn make_ready(log: &mut PageLog<MemDisk>, body: &[u8], count: usize) -> Result<(), AllocError>
-    requires body { IsBody body.now }
+    requires body { IsBody log.old.shape.version body.now }
     requires few { count ≤ 8 }
     requires steady { IsSteady log.old }
     ensures steady { IsSteady log.new }
@@ -30,7 +30,7 @@ pub fn make_ready(log: &mut PageLog<MemDisk>, body: &[u8], count: usize) -> Resu
 
 // Appends a body for which all is ready.
 fn put(log: &mut PageLog<MemDisk>, body: &[u8])
-    requires body { IsBody body.now }
+    requires body { IsBody log.old.shape.version body.now }
     requires ready { HasRoomFor (length body.now) 1 log.old }
     requires room_left { length log.old.bodies < log.old.shape.cap }
     ensures ready { (count : ℕ) → HasRoomFor (length body.now) (count + 1) log.old → HasRoomFor (length body.now) count log.new }
@@ -44,7 +44,7 @@ fn put(log: &mut PageLog<MemDisk>, body: &[u8])
 
 /// Appends a body so many times, for which all is ready.
 pub fn put_all(log: &mut PageLog<MemDisk>, body: &[u8], count: usize)
-    requires body { IsBody body.now }
+    requires body { IsBody log.old.shape.version body.now }
     requires ready { HasRoomFor (length body.now) count log.old }
     requires room_left { length log.old.bodies + count ≤ log.old.shape.cap }
     ensures steady { IsSteady log.new }
@@ -88,9 +88,9 @@ fn reopen(alloc: Global, disk: MemDisk, shape: Shape) -> Result<PageLog<MemDisk>
     requires good { IsGoodShape shape }
     requires room { HasRoom disk 7 258 }
     requires unarmed { IsUnarmed (Strikes disk) }
-    requires holds { (bodies : List (List ℕ)) × Holds shape bodies (content_of disk).seen }
+    requires holds { (bodies : List (List ℕ)) × Holds (uncut shape) bodies (content_of disk).seen }
     ensures steady { IfOk result IsSteady }
-    ensures log { (bodies : List (List ℕ)) → Holds shape bodies (content_of disk).seen → IfOk result (λ log. (log.shape ≡ shape) × (log.bodies ≡ bodies)) }
+    ensures log { (bodies : List (List ℕ)) → Holds (uncut shape) bodies (content_of disk).seen → IfOk result (λ log. (log.shape ≡ shape) × (log.bodies ≡ bodies)) }
 {
     opened(open_log(alloc, disk, Some(shape)))
 }
@@ -103,7 +103,7 @@ pub fn strike(
     body: &[u8],
     stop: ArmedStop,
 ) -> Result<PageLog<MemDisk>, AllocError>
-    requires body { IsBody body.now }
+    requires body { IsBody log.shape.version body.now }
     requires ready { HasRoomFor (length body.now) 1 log }
     requires room_left { length log.bodies < log.shape.cap }
     requires stop { IsStop stop }

@@ -1,6 +1,7 @@
 //! A point's body, field by field.
-ghost use Rattle.std.specs.Prelude.{◌-◌, ◌≤◌, Option, Bool, IfOk, None};
-ghost use Rattle.hy_base.specs.Shape.{IsGoodShape};
+ghost use Rattle.std.specs.Prelude.{◌≡◌, ◌-◌, ◌≤◌, Option, Bool, IfOk, None};
+ghost use Rattle.hy_base.specs.Rows.{is_purgeable};
+ghost use Rattle.hy_base.specs.Shape.{IsGoodShape, before_horizon};
 ghost use Rattle.hy_formats.specs.Reading.{items_at};
 ghost use Rattle.hy_codec.specs.EntryReading.{Gives};
 ghost use Rattle.hy_formats.specs.PointFormat.{position_at, point_head_at, saved_row_at, flag_at, point_body_at, whole_point_body};
@@ -59,36 +60,47 @@ fn point_head_at(shape: Shape, bytes: &[u8]) -> Result<(HeadFields, &[u8]), Fiel
     Ok((head, rest))
 }
 
-// A row of a key above the last one, if there is one, and of a writer up to the base.
+// Whether a row is a tombstone at or below a line.
+fn is_purgeable(row: &Row, line: Pos) -> bool
+    ensures { result ≡ is_purgeable line row.now }
+{
+    row.value.is_none() && row.writer <= line
+}
+
+// A row of a key above the last one, if there is one, and of a writer up to the base, and no tombstone at or below the line.
 #[tactic(auto, unfolding(hy_formats::specs::PointFormat::saved_row_at))]
 fn saved_row_at(
     alloc: Global,
+    line: Pos,
     base: Pos,
     last: Option<Key>,
     bytes: &[u8],
 ) -> Result<(Row, &[u8]), FieldError>
-    ensures { Gives (λ x. (x.0, x.1.now)) result (saved_row_at base last bytes.now) }
+    ensures { Gives (λ x. (x.0, x.1.now)) result (saved_row_at line base last bytes.now) }
 {
-    let (key, rest) = key_at(last, bytes)?;
-    let (writer, rest) = u32_in(rest, 1, base, Damage::Writer)?;
+    let (key, place) = key_at(last, bytes)?;
+    let (writer, rest) = u32_in(place, 1, base, Damage::Writer)?;
     let (value, rest) = value_at(alloc, rest)?;
-    Ok((Row { key, writer, value }, rest))
+    let row = Row { key, writer, value };
+    requiring(!is_purgeable(&row, line), Damage::Writer, place)?;
+    Ok((row, rest))
 }
 
 // So many rows, in the order of their keys.
 fn rows_at(
     alloc: Global,
     count: u64,
+    line: Pos,
     base: Pos,
     bytes: &[u8],
 ) -> Result<(Vec<Row>, &[u8]), FieldError>
-    ensures { Gives (λ x. (x.0.items, x.1.now)) result (items_at (saved_row_at base) (λ r. r.key) count None bytes.now) }
+    ensures { Gives (λ x. (x.0.items, x.1.now)) result (items_at (saved_row_at line base) (λ r. r.key) count None bytes.now) }
 {
     let mut rows = Vec::new(alloc);
     let mut last = None;
     let mut rest = bytes;
     for _ in 0..count {
-        let (row, after) = saved_row_at(alloc, base, last, rest)?;
+        let (row, after) = saved_row_at(alloc, line, base, last, rest)?;
         last = Some(row.key);
         rows.push(row)?;
         rest = after;
@@ -125,7 +137,8 @@ fn point_body_at(alloc: Global, shape: Shape, bytes: &[u8]) -> Result<(Body, &[u
     ensures { Gives (λ x. (body_of shape x.0, x.1.now)) result (point_body_at shape bytes.now) }
 {
     let (head, rest) = point_head_at(shape, bytes)?;
-    let (rows, rest) = rows_at(alloc, head.count, head.base, rest)?;
+    let line = shape.before_horizon(head.base);
+    let (rows, rest) = rows_at(alloc, head.count, line, head.base, rest)?;
     let (flags, rest) = flags_at(alloc, head.position.saturating_sub(head.base), rest)?;
     Ok((Body { head, rows, flags }, rest))
 }

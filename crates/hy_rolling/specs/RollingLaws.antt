@@ -1,19 +1,20 @@
 -- That validation by the last writers of rows gives the verdicts and the rows of the history, however the groups are cut into rolls.
-use Rattle.std.specs.Prelude.{◌≡◌, ⊤, ℕ, ◌+◌, ◌-◌, ◌*◌, ◌<◌, ◌≤◌, max, List, [], ◌∷◌, ◌++◌, length, drop, map, flat_map, Option, IfSome}
+use Rattle.std.specs.Prelude.{◌≡◌, ⊤, ℕ, ◌+◌, ◌-◌, ◌*◌, ◌<◌, ◌≤◌, max, List, [], ◌∷◌, ◌++◌, length, drop, map, flat_map, ◌%◌, ◌==◌, if◌then◌else◌, Option, IfSome}
 use Rattle.hy_base.specs.declared.layout.Shape.{Shape}
 use Rattle.hy_base.specs.declared.record.Intention.{Intention}
 use Rattle.hy_base.specs.declared.record.EntryKind.{EntryKind}
 use Rattle.hy_base.specs.declared.record.EntryKind.TheVariants.{Filler, Txn}
 use Rattle.hy_base.specs.declared.record.Row.{Row}
 use Rattle.hy_base.specs.declared.record.Verdict.{Verdict}
-use Rattle.hy_base.specs.Shape.{IsGoodShape, base_groups}
+use Rattle.hy_base.specs.Shape.{IsGoodShape, base_groups, line_after}
 use Rattle.hy_base.specs.Log.{HaveLawfulSnaps}
-use Rattle.hy_base.specs.Rows.{Each, WritersRise, rows_at, applied, newest, up_to}
+use Rattle.hy_base.specs.Rows.{Each, WritersRise, IsOrdered, rows_at, applied, newest, up_to, purged, Agrees}
+use Rattle.hy_base.specs.Later.{HasAll}
 use Rattle.hy_base.specs.Marks.{MarkSet, AreMarks, IsRaised, IsMerged, dep, late, first_late, clash, known_to}
 use Rattle.hy_rules.specs.History.{flagged_history, history_from, written_between, commits_past}
 use Rattle.hy_base.specs.Verdicts.{is_commit}
 use Rattle.hy_rules.specs.Validation.{Standing, Filling, Dropped, Joined, touched, first_clash, group_writes, standings, late_conflicts, fate_of, group_verdicts, verdicts_after, rows_after}
-use Rattle.hy_rolling.specs.Rolling.{staged_members, least_known, AreGroupMarks, after_fate, Rolled, not_rolled, roll_group, roll_groups, HasRolled, IsRolled}
+use Rattle.hy_rolling.specs.Rolling.{staged_members, least_known, fate_on, AreGroupMarks, after_fate, Rolled, not_rolled, finished, roll_group, roll_groups, HasRolled, IsRolled, IsTreeOf}
 
 -- ---- last writers
 
@@ -21,10 +22,11 @@ use Rattle.hy_rolling.specs.Rolling.{staged_members, least_known, AreGroupMarks,
 abbrev pub LastWritersAreEnough : Type 0
 LastWritersAreEnough = (known : ℕ → Option ℕ) (rows : List Row) → WritersRise rows → first_late known (newest rows) ≡ first_clash (late known rows)
 
--- the rows at the base clash with an intention's marks exactly where it conflicts with a commit past its snapshot and up to the base
+-- The rows at the base clash with an intention's marks exactly where it conflicts with a commit past its snapshot and up to the base.
+-- Tombstones that are left out matter to none whose snapshot is at or past their line.
 abbrev pub AdvanceIsPre : Type 0
-AdvanceIsPre = (committed : List Row) (base : ℕ) (i : Intention) (m : MarkSet) (writes : List Row) → WritersRise committed → AreMarks (known_to i.snap i) writes m
-    → clash (newest (up_to base committed)) m.pairs ≡ first_clash (touched i (written_between i.snap base committed))
+AdvanceIsPre = (committed : List Row) (line base : ℕ) (i : Intention) (m : MarkSet) (writes : List Row) → WritersRise committed → line ≤ i.snap → AreMarks (known_to i.snap i) writes m
+    → clash (purged line (newest (up_to base committed))) m.pairs ≡ first_clash (touched i (written_between i.snap base committed))
 
 -- raised marks know each key up to the base at least
 abbrev pub RaisedKnow : Type 0
@@ -70,21 +72,23 @@ SnapsUpTo upto [] = ⊤
 SnapsUpTo upto (Filler server ∷ es) = SnapsUpTo upto es
 SnapsUpTo upto (Txn i ∷ es) = (i.snap ≤ upto) × SnapsUpTo upto es
 
--- staging on the rows at the base finds the members that the history has
+-- Staging on the rows at the base finds the members that the history has. Tombstones that are left out, at or below a line that isn't above the oldest snapshot, matter to none of them.
 abbrev pub StagedAreStandings : Type 0
-StagedAreStandings = (committed : List Row) (base upto : ℕ) (es : List EntryKind) → WritersRise committed → base ≤ upto → SnapsUpTo upto es
-    → staged_members (newest (up_to base committed)) base (upto + 1) [] es ≡ standings committed base (upto + 1) [] es
+StagedAreStandings = (committed : List Row) (line oldest base upto : ℕ) (es : List EntryKind) → WritersRise committed → line ≤ oldest → base ≤ upto → SnapsUpTo upto es
+    → staged_members (purged line (newest (up_to base committed))) oldest base (upto + 1) [] es ≡ standings committed oldest base (upto + 1) [] es
 
--- The rows before a group clash with the marks of its members exactly where the history has a late conflict with one of them:
+-- A tree that agrees with the rows before a group clashes with the marks of its members exactly where the history has a late conflict with one of them:
 -- that decides their fate, and names the last writer of the least key.
 abbrev pub FinishIsFate : Type 0
-FinishIsFate = (committed : List Row) (base pos upto : ℕ) (ms : List Standing) (m : MarkSet) → WritersRise committed → Each (λ r. r.writer ≤ upto) committed → AreGroupMarks base pos ms m
-    → clash (newest committed) m.pairs ≡ first_clash (flat_map (late_conflicts committed base upto) ms)
+FinishIsFate = (committed tree : List Row) (line base pos upto : ℕ) (ms : List Standing) (m : MarkSet) → WritersRise committed → Each (λ r. r.writer ≤ upto) committed → line ≤ base → Agrees line tree (purged line (newest committed))
+    → AreGroupMarks base pos ms m
+    → clash tree m.pairs ≡ first_clash (flat_map (late_conflicts committed base upto) ms)
 
--- with that fate, the rows after the group are the newest of the history that has grown by what the group commits
+-- with that fate, what is left of it past a later line are the newest rows of the history that has grown by what the group commits
 abbrev pub FinishIsRows : Type 0
-FinishIsRows = (committed : List Row) (base upto : ℕ) (es : List EntryKind) (m : MarkSet) → WritersRise committed → Each (λ r. r.writer ≤ upto) committed → AreGroupMarks base (upto + 1) (standings committed base (upto + 1) [] es) m
-    → newest (committed ++ history_from (upto + 1) es (group_verdicts committed base upto es)) ≡ after_fate (fate_of (clash (newest committed) m.pairs)) (newest committed) m.writes
+FinishIsRows = (committed tree : List Row) (line next oldest base upto : ℕ) (es : List EntryKind) (m : MarkSet) → WritersRise committed → Each (λ r. r.writer ≤ upto) committed → line ≤ base → line ≤ next → IsOrdered tree
+    → Agrees line tree (purged line (newest committed)) → AreGroupMarks base (upto + 1) (standings committed oldest base (upto + 1) [] es) m
+    → purged next (newest (committed ++ history_from (upto + 1) es (group_verdicts committed oldest base upto es))) ≡ purged next (after_fate (fate_of (clash tree m.pairs)) tree m.writes)
 
 -- ---- rollers
 
@@ -107,11 +111,18 @@ StandingIsOne = (s : Shape) (front : List EntryKind) (r r' : Rolled) → IsGoodS
 
 -- the rows of a roller that stands are in order, and grew out of its base rows and of those that it keeps
 abbrev pub StandingIsLater : Type 0
-StandingIsLater = (s : Shape) (front : List EntryKind) (r : Rolled) → HasRolled s front r → IsRolled s r
+StandingIsLater = (s : Shape) (front : List EntryKind) (r : Rolled) → IsGoodShape s → HasRolled s front r → IsRolled s r
 
 -- with each further group the rows stay so, whether or not the roller stands
 abbrev pub RollKeepsLater : Type 0
 RollKeepsLater = (s : Shape) (r : Rolled) (entries : List EntryKind) → IsGoodShape s → length entries ≤ s.group → IsRolled s r → IsRolled s (roll_group s r entries)
+
+-- What a group's end gives, over whatever base rows, stands for the next rows: at a window's end what is left of it past the line, and else as it is.
+abbrev pub TreeFollows : Type 0
+TreeFollows = (s : Shape) (r : Rolled) (ms : List Standing) (tree end next : List Row) → IsGoodShape s → length ms ≤ s.group → IsRolled s r → IsTreeOf s r tree → IsOrdered end
+    → HasAll (line_after s r.groups) r.base_tree (after_fate (fate_on tree (s.group * base_groups s r.groups) ms) tree (group_writes (s.group * r.groups + 1) ms)) end
+    → next ≡ (if (r.groups + 1) % s.window == 0 then purged (line_after s (r.groups + 1)) end else end)
+    → IsTreeOf s (finished s r ms) next
 
 -- ---- commits past a base
 
@@ -122,5 +133,5 @@ CommitsMoveOn = (s : Shape) (n : ℕ) (vs ws : List (Option Verdict)) → IsGood
 
 -- the rows after some groups, with what committed since then, are the rows after more groups
 abbrev pub CommitsGiveRows : Type 0
-CommitsGiveRows = (s : Shape) (log : List EntryKind) (m n : ℕ) → m ≤ n → s.group * n ≤ length log
-    → applied (rows_after s log m) (flagged_history (s.group * m + 1) (drop (s.group * m) log) (commits_past (s.group * m) (verdicts_after s log n))) ≡ rows_after s log n
+CommitsGiveRows = (s : Shape) (log : List EntryKind) (m n : ℕ) → 0 < s.window → m ≤ n → s.group * n ≤ length log
+    → purged (line_after s n) (applied (rows_after s log m) (flagged_history (s.group * m + 1) (drop (s.group * m) log) (commits_past (s.group * m) (verdicts_after s log n)))) ≡ rows_after s log n

@@ -1,12 +1,13 @@
 //! Groups that are validated one after another by the rows alone. Each law is the contract of a function that does nothing.
-ghost use Rattle.hy_rolling.specs.RollingLaws.{LastWritersAreEnough, AdvanceIsPre, RaisedKnow, EmptyGroup, JoinedGroup, SkippedGroup, JoinIsMate, GroupMarksAreOwn, StagedAreStandings, FinishIsFate, FinishIsRows, NewRollerStands, RollExtends, AnyCutRollsTheSame, StandingIsOne, StandingIsLater, RollKeepsLater, CommitsMoveOn, CommitsGiveRows};
+ghost use Rattle.hy_rolling.specs.RollingLaws.{LastWritersAreEnough, AdvanceIsPre, RaisedKnow, EmptyGroup, JoinedGroup, SkippedGroup, JoinIsMate, GroupMarksAreOwn, StagedAreStandings, FinishIsFate, FinishIsRows, NewRollerStands, RollExtends, AnyCutRollsTheSame, StandingIsOne, StandingIsLater, RollKeepsLater, TreeFollows, CommitsMoveOn, CommitsGiveRows};
 
 /// The last writer of each key is enough to find the first clash.
 pub fn last_writers_are_enough()
     ensures { LastWritersAreEnough }
 {}
 
-/// The rows at the base clash with an intention's marks exactly where it conflicts with a commit up to the base.
+/// The rows at the base clash with an intention's marks exactly where it conflicts with a commit past its snapshot and up to
+/// the base, also without the tombstones at or below a line that its snapshot isn't before.
 pub fn advance_is_pre()
     ensures { AdvanceIsPre }
 {}
@@ -41,7 +42,8 @@ pub fn group_marks_are_own()
     ensures { GroupMarksAreOwn }
 {}
 
-/// Staging on the rows at the base finds the members that the history has.
+/// Staging on the rows at the base finds the members that the history has, also without the tombstones at or below a line
+/// that isn't above the oldest snapshot that they may have.
 pub fn staged_are_standings()
     ensures { StagedAreStandings }
 {}
@@ -84,6 +86,11 @@ pub fn standing_is_later()
 /// Whatever a roller stands for, its rows stay later than its base rows and those that it keeps.
 pub fn roll_keeps_later()
     ensures { RollKeepsLater }
+{}
+
+/// What a group's end gives stands for the next rows, whatever tombstones at or below the line came back.
+pub fn tree_follows()
+    ensures { TreeFollows }
 {}
 
 /// The commits past the next base, as one more group is judged.

@@ -11,5 +11,5 @@ pub use laws::{
     advance_is_pre, any_cut_rolls_the_same, commits_give_rows, commits_move_on, empty_group,
     finish_is_fate, finish_is_rows, group_marks_are_own, join_is_mate, joined_group,
     last_writers_are_enough, new_roller_stands, raised_know, roll_extends, roll_keeps_later,
-    skipped_group, staged_are_standings, standing_is_later, standing_is_one,
+    skipped_group, staged_are_standings, standing_is_later, standing_is_one, tree_follows,
 };

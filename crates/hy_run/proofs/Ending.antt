@@ -1,85 +1,174 @@
--- How a text that there isn't ends a call.
-use Rattle.std.proofs.Common.{◌≡◌, ◌≢◌, ℕ, Bool, true, false, IsTrue, List, refl, sym, ap, inl, inr, ⊎_elim, length}
-use Rattle.std.specs.Prelude.{◌⊎◌, Option, Some, Result, Ok, Err, IfErr, IsErr}
-use Rattle.hy_base.specs.declared.layout.Shape.{Shape}
+-- What the commands come to: each by its text, or by why there is none.
+use Rattle.std.proofs.Common.{◌≡◌, ℕ, true, false, IsTrue, refl, sym, subst, inl, inr}
+use Rattle.std.specs.Prelude.{◌⊎◌, Option, None, Result, Ok, Err, IfOk, IfErr}
+use Rattle.std.proofs.lemmas.Result.{IfErr-weaker}
 use Rattle.hy_base.specs.Faults.{Rose}
-use Rattle.hy_formats.specs.declared.damage.LogFault.{LogFault}
-use Rattle.hy_formats.specs.declared.damage.LogPlace.TheVariants.{Page}
-use Rattle.hy_formats.specs.Restarting.{restart_in}
-use Rattle.hy_rules.specs.Recovery.{Recovered}
-use Rattle.hy_disk.specs.Content.{Content}
 use Rattle.hy_base.specs.Spelling.{Text}
-use Rattle.hy_base.specs.Script.{Workload}
-use Rattle.hy_formats.specs.declared.refusal.OpenError.{OpenError}
-use Rattle.hy_formats.specs.declared.refusal.OpenError.TheVariants as opening
-use Rattle.hy_run.specs.Inspection.{IsDamaged, IsLogFault, open_fault}
-use Rattle.hy_run.specs.Devices.{FaultCounts, Found}
-use Rattle.hy_run.specs.Running.{HasFailed, IsRunOn, IsSaving, LeavesPoint, restart_refused}
-use Rattle.hy_run.specs.RunningParts.{IsRanFault, IsSavingScript, IsScriptLeft, IsScriptOf, OpenedDevices, opening_status}
+use Rattle.hy_formats.specs.declared.damage.LogPlace.TheVariants.{Page, Entry}
+use Rattle.hy_rules.specs.Recovery.{recovered}
+use Rattle.hy_run.specs.Answering.{JobDeviceFails}
+use Rattle.hy_run.specs.Compacting.{LeavesSpareBy}
+use Rattle.hy_run.specs.Fates.{Fate, Fits, WasOpened, LeavesPoint, grown, opened, uncalled, unopened}
+use Rattle.hy_run.specs.Handovers.{IsCause, IsDone, IsReadFault}
+use Rattle.hy_run.specs.Inspection.{IsUntold}
+use Rattle.hy_run.specs.Jobs.{LeavesUnborn, follows, loads, meaning, no_point, runs, simulates, tells_of_log}
+use Rattle.hy_run.specs.Loading.{IsLoadText}
+use Rattle.hy_run.specs.Looking.{FitsLook, IsInspection}
+use Rattle.hy_run.specs.Output.{IsOutput, IsRefused}
+use Rattle.hy_run.specs.Over.{IsOnlyRead, Over}
+use Rattle.hy_run.specs.Running.{IsScriptRefused}
+use Rattle.hy_run.specs.RunningParts.{IsReadingFault}
+use Rattle.hy_run.specs.StreamParts.{IsStreamFault}
+use Rattle.hy_run.specs.Streams.{IsFollowed, IsStreamRefused}
+use Rattle.hy_run.specs.declared.inspect.Report.{Report}
 use Rattle.hy_run.specs.declared.status.RunOptions.{RunOptions}
-use Rattle.hy_run.proofs.ByKind.{reaches_log}
-use Rattle.hy_run.specs.Obeying.{ends_early, ends_first}
-use Rattle.hy_run.specs.Output.{is_before_log, is_cut_off, kind_of}
 use Rattle.hy_run.specs.declared.status.Status.{Status}
 use Rattle.hy_run.specs.declared.status.Status.TheVariants as status
 use Rattle.hy_run.specs.declared.status.Which.TheVariants as which
+use Rattle.hy_run.proofs.ByKind.{by_fault, by_fault_of, fault_by}
 
--- where the device failed, or memory ran out
-pub cut_early : {V : Type 0} (text : Result V Status) (A : Type 0) → IfErr text (λ s. ((s ≡ status.Device which.Log) × A) ⊎ (s ≡ status.Memory)) → IsErr text → ends_early text ≡ true
-cut_early (Ok v) A is none = absurd (let wrong : false ≡ true = none in cc wrong)
-cut_early (Err s) A is none = ⊎_elim (λ device. ap (λ x. is_cut_off (kind_of x)) device.0) (λ memory. ap (λ x. is_cut_off (kind_of x)) memory) is
+-- an answer of a call that left the spare device alone
+spare_alone : (spare : Over) (s : Status) → spare.uncalled → LeavesSpareBy s spare
+spare_alone spare status.Fine same = tt
+spare_alone spare status.Usage same = same
+spare_alone spare (status.Script n why) same = same
+spare_alone spare status.Source same = same
+spare_alone spare status.Sink same = tt
+spare_alone spare (status.Device which.Log) same = same
+spare_alone spare (status.Device which.Points) same = same
+spare_alone spare (status.Device which.Spare) same = tt
+spare_alone spare (status.Log place why) same = same
+spare_alone spare (status.Config field held asked) same = same
+spare_alone spare (status.Point place why) same = same
+spare_alone spare (status.Ahead at held) same = same
+spare_alone spare (status.Behind base from) same = same
+spare_alone spare status.Memory same = tt
+spare_alone spare (status.NothingToCut from base) same = same
+spare_alone spare status.SpareInUse same = tt
+spare_alone spare (status.Frame place why) same = same
 
--- a log's answer comes when the log is reached
-pub log_reached : {V : Type 0} (text : Result V Status) (tells : Bool) (expected : Result Recovered LogFault) (faults faults_now : ℕ) → IfErr text (IsLogFault tells expected faults faults_now) → ends_first text ≡ false
-log_reached (Ok v) tells expected faults faults_now is = refl
-log_reached (Err s) tells expected faults faults_now is = reaches_log (IsDamaged tells expected) (λ device. (device ≡ which.Log) × Rose faults faults_now) s is
+pub spare_apart : {V : Type 0} (spare : Over) (text : Result V Status) → spare.uncalled → IfErr text (λ s. LeavesSpareBy s spare)
+spare_apart spare (Ok v) same = tt
+spare_apart spare (Err s) same = spare_alone spare s same
 
-pub ran_reached : {V : Type 0} (text : Result V Status) (options : RunOptions) (asked : Shape) (on : OpenedDevices) (counts : FaultCounts) (acked : ℕ) → IfErr text (IsRanFault options asked on counts acked) → ends_first text ≡ false
-ran_reached (Ok v) options asked on counts acked is = refl
-ran_reached (Err s) options asked on counts acked is =
-    reaches_log (λ s. ((IsTrue on.tells → restart_refused (restart_in on.shape on.bodies options.from_point on.points) ≡ Some s) × (acked ≡ length on.bodies)) ⊎ (on.shape ≢ asked)) (HasFailed options counts) s is
+module _ {V : Type 0} (items : V → Text) (told : Option Text) (faults faults_now : ℕ) (log points spare : Over) where
+  -- a source without a script
+  pub unread_done : (options : RunOptions) (s : Status) → IsReadingFault told faults faults_now s → log.uncalled → points.uncalled → spare.uncalled → IsDone items (meaning (runs options)) told faults faults_now log points spare (Err s) 0
+  unread_done options s is log_same points_same spare_same = record {
+    fate = uncalled;
+    start = None;
+    is = tt;
+    cause = fault_by (IsScriptRefused told) (λ x. ⊥) (Rose faults faults_now) (λ one. ⊥) (IsScriptRefused told) ((meaning (runs options)).log_refused told log points spare) (IsTrue true × Rose faults faults_now) (JobDeviceFails (meaning (runs options)) log points spare)
+        (λ n why bad. bad) (λ x kind never. absurd never) (λ rose. (refl, rose)) (λ one never. absurd never) s is;
+    comes_first = by_fault (IsScriptRefused told) (λ x. ⊥) (Rose faults faults_now) (λ one. ⊥) (λ x. Fits options false x points uncalled) (λ n why bad. refl) (λ x kind never. absurd never) (λ rose. refl) (λ one never. absurd never) tt s is;
+    may_leave = tt;
+    log_left = log_same;
+    acked_is = refl;
+    point_left = points_same;
+    unused = λ start save. points_same;
+    spare_left = spare_same;
+    comes_before_spare = spare_alone spare s spare_same;
+  }
 
--- and so do those for a log that was not opened
-pub opening_reached : (error : OpenError) → is_before_log (kind_of (opening_status error)) ≡ false
-opening_reached opening.Memory = refl
-opening_reached opening.Device = refl
-opening_reached (opening.BadPage bad) = refl
-opening_reached (opening.Config field log asked) = refl
-opening_reached opening.Unborn = refl
+  pub simulated_done : (text : Result V Status) → IfOk text (λ v. IsOutput told (items v)) → IfErr text (IsReadFault told faults faults_now) → log.uncalled → points.uncalled → spare.uncalled → IsDone items (meaning simulates) told faults faults_now log points spare text 0
+  simulated_done text output refused log_same points_same spare_same = record {
+    fate = uncalled;
+    start = None;
+    is = output;
+    cause = IfErr-weaker text _ _ (λ s is. fault_by (IsRefused told) (λ x. ⊥) (Rose faults faults_now) (λ one. ⊥) (IsRefused told) (λ x. ⊥) (IsTrue true × Rose faults faults_now) (JobDeviceFails (meaning simulates) log points spare)
+        (λ n why bad. bad) (λ x kind never. never) (λ rose. (refl, rose)) (λ one never. absurd never) s is) refused;
+    comes_first = IfErr-weaker text _ _ (λ s is. by_fault (IsRefused told) (λ x. ⊥) (Rose faults faults_now) (λ one. ⊥) (λ x. Fits no_point false x points uncalled) (λ n why bad. refl) (λ x kind never. absurd never) (λ rose. refl) (λ one never. absurd never) tt s is) refused;
+    may_leave = refl;
+    log_left = log_same;
+    acked_is = refl;
+    point_left = points_same;
+    unused = λ start save. points_same;
+    spare_left = spare_same;
+    comes_before_spare = spare_apart spare text spare_same;
+  }
 
-fault_reached : (error : OpenError) (s : Status) → open_fault error ≡ Some s → is_before_log (kind_of s) ≡ false
-fault_reached opening.Memory s is = let same : status.Memory ≡ s = cc is in ap (λ x. is_before_log (kind_of x)) (sym same)
-fault_reached opening.Device s is = let same : status.Device which.Log ≡ s = cc is in ap (λ x. is_before_log (kind_of x)) (sym same)
-fault_reached (opening.BadPage bad) s is = let same : status.Log (Page bad.page) bad.why ≡ s = cc is in ap (λ x. is_before_log (kind_of x)) (sym same)
-fault_reached (opening.Config field log asked) s is = absurd cc
-fault_reached opening.Unborn s is = absurd cc
+  pub loaded_done : (seed size : ℕ) (text : Result V Status) → IfOk text (λ v. IsLoadText seed size (items v)) → IfErr text (λ s. s ≡ status.Memory) → log.uncalled → points.uncalled → spare.uncalled → IsDone items (meaning (loads seed size)) told faults faults_now log points spare text 0
+  loaded_done seed size text output memory log_same points_same spare_same = record {
+    fate = uncalled;
+    start = None;
+    is = output;
+    cause = IfErr-weaker text _ _ (λ s is. subst (IsCause (meaning (loads seed size)) told faults faults_now log points spare) (sym is) tt) memory;
+    comes_first = IfErr-weaker text _ _ (λ s is. subst (λ x. Fits no_point false x points uncalled) (sym is) tt) memory;
+    may_leave = refl;
+    log_left = log_same;
+    acked_is = refl;
+    point_left = points_same;
+    unused = λ start save. points_same;
+    spare_left = spare_same;
+    comes_before_spare = spare_apart spare text spare_same;
+  }
 
-pub unopened_reached : {V : Type 0} (error : OpenError) (text : Result V Status) → IfErr text (λ s. (open_fault error ≡ Some s) ⊎ (s ≡ status.Memory)) → ends_first text ≡ false
-unopened_reached error (Ok v) is = refl
-unopened_reached error (Err s) (inl is) = fault_reached error s is
-unopened_reached error (Err s) (inr is) = ap (λ x. is_before_log (kind_of x)) is
+  pub followed_done : (text : Result V Status) → IfOk text (λ v. IsFollowed told (items v)) → IfErr text (IsStreamFault told faults faults_now) → log.uncalled → points.uncalled → spare.uncalled → IsDone items (meaning follows) told faults faults_now log points spare text 0
+  followed_done text output refused log_same points_same spare_same = record {
+    fate = uncalled;
+    start = None;
+    is = output;
+    cause = IfErr-weaker text _ _ (λ s is. by_fault_of (λ n why. ⊥) (IsStreamRefused told) (λ x. ⊥) (Rose faults faults_now) (λ one. ⊥) (IsCause (meaning follows) told faults faults_now log points spare)
+        (λ n why never. absurd never) (λ bad refused. refused) (λ x kind never. absurd never) (λ rose. (refl, rose)) (λ one never. absurd never) tt s is) refused;
+    comes_first = IfErr-weaker text _ _ (λ s is. by_fault_of (λ n why. ⊥) (IsStreamRefused told) (λ x. ⊥) (Rose faults faults_now) (λ one. ⊥) (λ x. Fits no_point false x points uncalled) (λ n why never. absurd never) (λ bad refused. refl) (λ x kind never. absurd never) (λ rose. refl) (λ one never. absurd never) tt s is) refused;
+    may_leave = refl;
+    log_left = log_same;
+    acked_is = refl;
+    point_left = points_same;
+    unused = λ start save. points_same;
+    spare_left = spare_same;
+    comes_before_spare = spare_apart spare text spare_same;
+  }
 
--- what a run leaves is what its source asks for
-pub left_as_asked : {D : Type 0} (told : Option Text) (script : Workload) (tells : Bool) (content : D → Content) (moment : D → ℕ) (left_since : D → ℕ → List ℕ → Type 0) (faults_of : D → ℕ) (old new : D) (cut_off : Bool) (acked : ℕ) → IsScriptOf told script
-    → IsScriptLeft script.shape tells content moment left_since faults_of old new cut_off acked → IsRunOn told tells content moment left_since faults_of old new cut_off acked
-left_as_asked told script tells content moment left_since faults_of old new cut_off acked of is = record {
-  later = is.later;
-  left = λ knows. ⊎_elim (λ none. inl none) (λ opened. inr (script.shape, record { bytes = of.bytes; are_of = of.are_of; input = of.input; asked = of.asked; same = ap (λ (w : Workload). w.shape) of.same }, opened)) (is.left knows);
-}
+  -- ---- a look at the log
 
-pub point_as_asked : {D : Type 0} (options : RunOptions) (told : Option Text) (script : Workload) (on : Found) (content : D → Content) (moment : D → ℕ) (left_since : D → ℕ → List ℕ → Type 0) (faults_of : D → ℕ) (old new : D) (may : Bool) (acked : ℕ) → IsScriptOf told script
-    → LeavesPoint options content moment left_since faults_of old new may (IsSavingScript options script.shape on content moment left_since old new acked) → LeavesPoint options content moment left_since faults_of old new may (IsSaving options told on content moment left_since old new acked)
-point_as_asked options told script on content moment left_since faults_of old new may acked of is = record {
-  later = is.later;
-  unused = is.unused;
-  unsaved = is.unsaved;
-  left = ⊎_elim (λ only. inl only) (λ saving. inr (record {
-    shape = script.shape;
-    asked = record { bytes = of.bytes; are_of = of.are_of; input = of.input; asked = of.asked; same = ap (λ (w : Workload). w.shape) of.same };
-    found = saving.found;
-    was_found = saving.was_found;
-    start = saving.start;
-    starts = saving.starts;
-    is = saving.is;
-  })) is.left;
-}
+  fails_at : (fate : Fate) → points.uncalled → (fate ≡ unopened) ⊎ WasOpened fate → Fits no_point false (status.Device which.Log) points fate
+  fails_at uncalled same (inl is) = absurd (cc is)
+  fails_at uncalled same (inr never) = absurd never
+  fails_at unopened same looked = tt
+  fails_at (opened header bodies) same looked = same
+  fails_at (grown g) same (inl is) = absurd (cc is)
+  fails_at (grown g) same (inr never) = absurd never
+
+  look_fits : (fate : Fate) (s : Status) → points.uncalled → FitsLook s fate → Fits no_point false s points fate
+  look_fits fate status.Fine same is = absurd is
+  look_fits fate status.Usage same is = absurd is
+  look_fits fate (status.Script n why) same is = absurd is
+  look_fits fate status.Source same is = absurd is
+  look_fits fate status.Sink same is = absurd is
+  look_fits fate (status.Device which.Log) same is = fails_at fate same is
+  look_fits fate (status.Device which.Points) same is = absurd is
+  look_fits fate (status.Log (Page page) why) same is = is
+  look_fits fate (status.Log (Entry pos) why) same is = (is, same)
+  look_fits fate (status.Config field held asked) same is = absurd is
+  look_fits fate (status.Point place why) same is = absurd is
+  look_fits fate (status.Ahead at held) same is = absurd is
+  look_fits fate (status.Device which.Spare) same is = absurd is
+  look_fits fate (status.Behind base from) same is = is
+  look_fits fate (status.NothingToCut from base) same is = absurd is
+  look_fits fate status.SpareInUse same is = absurd is
+  look_fits fate (status.Frame place why) same is = absurd is
+  look_fits fate status.Memory same is = tt
+
+  point_alone : (fate : Fate) → points.uncalled → IsOnlyRead points → LeavesUnborn log fate → LeavesPoint no_point points fate None
+  point_alone uncalled same read looked = same
+  point_alone unopened same read looked = same
+  point_alone (opened header bodies) same read looked = (read, λ unasked. same)
+  point_alone (grown g) same read looked = absurd looked
+
+  pub inspected_done : (report : Report) (text : Result V Status) (acked : ℕ) → IsInspection items report log text acked → points.uncalled → IsOnlyRead points → spare.uncalled → IsDone items (meaning (tells_of_log report)) told faults faults_now log points spare text acked
+  inspected_done report text acked is same read spare_same = record {
+    fate = is.fate;
+    start = None;
+    is = is.is;
+    cause = IfErr-weaker text _ _ (λ s bad. fault_by (λ n why. ⊥) (IsUntold report log.tells (recovered log.before.seen)) ⊥ (λ one. (one ≡ which.Log) × Rose log.faults log.faults_now) (λ n why. ⊥) (IsUntold report log.tells (recovered log.before.seen)) (IsTrue false × Rose faults faults_now) (JobDeviceFails (meaning (tells_of_log report)) log points spare)
+        (λ n why never. never) (λ x kind damaged. damaged) (λ never. absurd never) (λ one failed. subst (JobDeviceFails (meaning (tells_of_log report)) log points spare) (sym failed.0) failed.1) s bad) is.cause;
+    comes_first = IfErr-weaker text _ _ (λ s fits. look_fits is.fate s same fits) is.comes_first;
+    may_leave = is.may_leave;
+    log_left = is.log_left;
+    acked_is = is.acked_is;
+    point_left = point_alone is.fate same read is.may_leave;
+    unused = λ start save. same;
+    spare_left = spare_same;
+    comes_before_spare = spare_apart spare text spare_same;
+  }

@@ -1,98 +1,145 @@
 -- What a restart leaves for the run that begins with it.
-use Rattle.std.proofs.Common.{◌≡◌, ◌≢◌, ℕ, ◌≤◌, Bool, false, IsTrue, List, length, refl, sym, ◌∙◌, ap, subst, inl, inr, ⊎_elim, arith}
-use Rattle.std.specs.Prelude.{◌⊎◌, Option, Some, Result, Ok, Err, IfErr}
-use Rattle.hy_base.specs.declared.layout.Shape.{Shape}
+use Rattle.std.proofs.Common.{◌≡◌, ℕ, ◌≤◌, Bool, true, false, IsTrue, List, ◌++◌, refl, sym, ◌∙◌, ap, subst, inl, inr, ⊎_elim, arith}
+use Rattle.std.specs.Prelude.{Some, Option, Result, Ok, Err, IfErr}
+use Rattle.std.proofs.lemmas.Result.{IfOk-weaker, IfErr-weaker}
+use Rattle.std.proofs.lemmas.Bool.{or_left}
+use Rattle.hy_formats.specs.declared.header.Header.{Header}
 use Rattle.hy_base.specs.declared.record.EntryKind.{EntryKind}
-use Rattle.hy_base.specs.Faults.{Rose}
+use Rattle.hy_base.specs.Script.{Workload}
+use Rattle.hy_base.specs.Spelling.{Text}
 use Rattle.hy_formats.specs.Checkpoint.{Checkpoint}
+use Rattle.hy_formats.specs.LogDevice.{Holds}
 use Rattle.hy_formats.specs.Restarting.{IsStart, restart_in}
 use Rattle.hy_rolling.specs.Rolling.{Roll}
 use Rattle.hy_rules.specs.SavedPoints.{IsFit, IsLeftBySave}
 use Rattle.hy_disk.specs.Content.{Content, Image, settled}
 use Rattle.hy_disk.specs.Moments.{LeavesOnly, OnlyReads}
 use Rattle.hy_disk.proofs.Images.{image_settled}
-use Rattle.hy_disk.proofs.Moments.{joined, weaker}
-use Rattle.hy_log.specs.View.{LogView}
+use Rattle.hy_disk.proofs.Moments.{joined, quiet_then, weaker}
 use Rattle.hy_formats.specs.declared.refusal.RestartError.{RestartError}
 use Rattle.hy_formats.specs.declared.refusal.RestartError.TheVariants as restarting
-use Rattle.hy_restart.specs.Restart.{AreFoundIn, IsRestarted, IsSameLog, RefusesRestart, entries_for}
-use Rattle.hy_restart.proofs.Looks.{reads_then}
+use Rattle.hy_entries.specs.LogEntries.{AreFoundIn}
+use Rattle.hy_restart.specs.Restart.{IsOfLog, IsOfPoint, IsRestarted, RefusesRestart, entries_for}
 use Rattle.hy_restart.proofs.Saves.{left_same}
-use Rattle.hy_run.specs.Devices.{FaultCounts}
-use Rattle.hy_run.specs.Running.{HasFailed, IsSavingFrom, LeavesPoint, restart_refused}
-use Rattle.hy_run.specs.RunningParts.{IsRanFault, IsSavingPart, OpenedDevices, opened_as, restart_fault}
+use Rattle.hy_run.specs.Fates.{DeviceFails, Fits, Growth, opened}
+use Rattle.hy_run.specs.Over.{HasFailed, Over, over}
+use Rattle.hy_run.specs.Running.{restart_fault, restart_refused}
+use Rattle.hy_run.specs.RunningParts.{FitsPart, IsRanFault, IsRead, IsRunPart, IsSavingPart}
 use Rattle.hy_run.specs.declared.status.RunOptions.{RunOptions}
 use Rattle.hy_run.specs.declared.status.Status.{Status}
+use Rattle.hy_run.specs.declared.status.Status.TheVariants as status
 use Rattle.hy_run.specs.declared.status.Which.{Which}
 use Rattle.hy_run.specs.declared.status.Which.TheVariants as which
 use Rattle.hy_run.proofs.ByKind.{fault_by}
 
--- counts taken from a later moment on, to the same one
-pub record IsLaterThan (before mid : FaultCounts) : Type 0 where
-  pub log : before.log ≤ mid.log
-  pub points : before.points ≤ mid.points
-  pub log_now : mid.log_now ≡ before.log_now
-  pub points_now : mid.points_now ≡ before.points_now
+pub found_same : (tells : Bool) (h k : Header) (old new : List (List ℕ)) (entries : List EntryKind) → h ≡ k → new ≡ old → AreFoundIn tells h old entries → AreFoundIn tells k new entries
+found_same tells h k old new entries header bodies is = subst (λ (x : Header). AreFoundIn tells x new entries) header (subst (λ bs. AreFoundIn tells h bs entries) (sym bodies) is)
 
--- a count that rose since then rose before
-rose_since : (before mid after now : ℕ) → before ≤ mid → after ≡ now → Rose mid after → Rose before now
-rose_since before mid after now later same rose = subst (λ n. Rose before n) same (let r = rose in omega (arith, later, r))
+abbrev Starts : Bool → Bool → Header → Content → List EntryKind → Roll → Type 0
+Starts tells from_point h points entries r = (start : Option Checkpoint) × IsStart tells from_point h points.seen entries start × IsRestarted h.shape h.from entries start r
 
-pub failed_since : (options : RunOptions) (before mid : FaultCounts) → IsLaterThan before mid → (one : Which) → HasFailed options mid one → HasFailed options before one
-failed_since options before mid later which.Log failed = rose_since before.log mid.log mid.log_now before.log_now later.log later.log_now failed
-failed_since options before mid later which.Points failed = (failed.0, rose_since before.points mid.points mid.points_now before.points_now later.points later.points_now failed.1)
+pub roller_same : (tells from_point : Bool) (h k : Header) (old new : Content) (entries : List EntryKind) (r : Roll) → h ≡ k → new ≡ old → Starts tells from_point h old entries r → Starts tells from_point k new entries r
+roller_same tells from_point h k old new entries r header same is = subst (λ (x : Header). Starts tells from_point x new entries r) header (subst (λ (c : Content). Starts tells from_point h c entries r) (sym same) is)
 
-pub fault_since : (options : RunOptions) (asked : Shape) (on : OpenedDevices) (before mid : FaultCounts) (acked : ℕ) (s : Status) → IsLaterThan before mid → IsRanFault options asked on mid acked s → IsRanFault options asked on before acked s
-fault_since options asked on before mid acked s later is =
-    fault_by (λ n cause. ⊥) (λ x. ((IsTrue on.tells → restart_refused (restart_in on.shape on.bodies options.from_point on.points) ≡ Some x) × (acked ≡ length on.bodies)) ⊎ (on.shape ≢ asked)) ⊥ (HasFailed options mid)
-    (λ n cause. ⊥) (λ x. ((IsTrue on.tells → restart_refused (restart_in on.shape on.bodies options.from_point on.points) ≡ Some x) × (acked ≡ length on.bodies)) ⊎ (on.shape ≢ asked)) ⊥ (HasFailed options before)
-    (λ n cause never. never) (λ x kind bad. bad) (λ never. never) (failed_since options before mid later) s is
+-- ---- a run after some reads of both devices
 
--- what the run works on is what the restart found
-pub same_opened : {D : Type 0} (tells : Bool) (content : D → Content) (old new : LogView D) (points mid : D) → IsSameLog old new → content mid ≡ content points → opened_as tells content new mid ≡ opened_as tells content old points
-same_opened tells content old new points mid same there = λ i. record { tells = tells; shape = same.shape i; bodies = same.bodies i; points = (there i).seen }
+module _ {D : Type 0} (tells : Bool) (content : D → Content) (moment : D → ℕ) (left_since : D → ℕ → List ℕ → Type 0) (faults_of : D → ℕ) (old mid new old_points mid_points points : D) (options : RunOptions) (later : faults_of old ≤ faults_of mid) (reads : OnlyReads content moment left_since faults_of old_points mid_points) where
+  abbrev log : Over
+  log = over tells content moment left_since faults_of old new
 
-pub found_same : (tells : Bool) (s t : Shape) (old new : List (List ℕ)) (entries : List EntryKind) → s ≡ t → new ≡ old → AreFoundIn tells s old entries → AreFoundIn tells t new entries
-found_same tells s t old new entries shape bodies is = subst (λ (x : Shape). AreFoundIn tells x new entries) shape (subst (λ bs. AreFoundIn tells s bs entries) (sym bodies) is)
+  abbrev log_then : Over
+  log_then = over tells content moment left_since faults_of mid new
 
-abbrev Starts : Bool → Bool → Shape → Content → List EntryKind → Roll → Type 0
-Starts tells from s points entries r = (start : Option Checkpoint) × IsStart tells from s points.seen entries start × IsRestarted s entries start r
+  abbrev point : Over
+  point = over tells content moment left_since faults_of old_points points
 
-pub roller_same : (tells from : Bool) (s t : Shape) (old new : Content) (entries : List EntryKind) (r : Roll) → s ≡ t → new ≡ old → Starts tells from s old entries r → Starts tells from t new entries r
-roller_same tells from s t old new entries r shape same is = subst (λ (x : Shape). Starts tells from x new entries r) shape (subst (λ (k : Content). Starts tells from s k entries r) (sym same) is)
+  abbrev point_then : Over
+  point_then = over tells content moment left_since faults_of mid_points points
 
-module _ {D : Type 0} (options : RunOptions) (content : D → Content) (moment : D → ℕ) (left_since : D → ℕ → List ℕ → Type 0) (faults_of : D → ℕ) (old mid new : D) (reads : OnlyReads content moment left_since faults_of old mid) where
-  -- a save after some reads
-  saving_then : (shape : Shape) (tells : Bool) (found : List EntryKind) (start : Option Checkpoint) (acked : ℕ) → IsSavingFrom shape tells found start content moment left_since mid new acked → IsSavingFrom shape tells found start content moment left_since old new acked
-  saving_then shape tells found start acked is = record {
-    entries = is.entries;
-    begins = is.begins;
-    counted = is.counted;
+  abbrev point_leaves : (List ℕ → Type 0) → Type 0
+  point_leaves = LeavesOnly moment left_since old_points points
+
+  abbrev point_leaves_then : (List ℕ → Type 0) → Type 0
+  point_leaves_then = LeavesOnly moment left_since mid_points points
+
+  fails_then : (one : Which) → DeviceFails options log_then point_then one → DeviceFails options log point one
+  fails_then which.Log failed = let r = failed in omega (arith, later, r)
+  fails_then which.Points failed = (failed.0, let r = failed.1 in let l = reads.later in omega (arith, l, r))
+  fails_then which.Spare never = never
+
+  fault_then : (h : Header) (bodies : List (List ℕ)) (s : Status) → IsRanFault options h bodies log_then point_then s → IsRanFault options h bodies log point s
+  fault_then h bodies s is =
+      fault_by (λ n cause. ⊥) (λ x. IsTrue tells → restart_refused (restart_in h bodies options.from_point (content mid_points).seen) ≡ Some x) ⊥ (DeviceFails options log_then point_then)
+      (λ n cause. ⊥) (λ x. IsTrue tells → restart_refused (restart_in h bodies options.from_point (content old_points).seen) ≡ Some x) ⊥ (DeviceFails options log point)
+      (λ n cause never. never) (λ x kind bad. subst (λ (k : Content). IsTrue tells → restart_refused (restart_in h bodies options.from_point k.seen) ≡ Some x) reads.same bad) (λ never. never) fails_then s is
+
+  read_then : IsRead point_then point_leaves_then → IsRead point point_leaves
+  read_then is = record { same = is.same ∙ reads.same; quiet = quiet_then moment left_since content old_points mid_points points reads.quiet reads.same is.quiet }
+
+  first_then : (g : Growth) (s : Status) → FitsPart options s point_then point_leaves_then g → FitsPart options s point point_leaves g
+  first_then g status.Memory is = tt
+  first_then g (status.Device which.Log) is = read_then is
+  first_then g (status.Device which.Points) is = is
+  first_then g status.Fine is = is
+  first_then g status.Usage is = is
+  first_then g (status.Script n why) is = is
+  first_then g status.Source is = is
+  first_then g status.Sink is = is
+  first_then g (status.Log place why) is = is
+  first_then g (status.Config field held asked) is = is
+  first_then g (status.Point place why) is = is
+  first_then g (status.Ahead at held) is = is
+  first_then g (status.Device which.Spare) is = is
+  first_then g (status.Behind base from) is = is
+  first_then g (status.NothingToCut from base) is = is
+  first_then g status.SpareInUse is = is
+  first_then g (status.Frame place why) is = is
+
+  saving_then : (g : Growth) (start : Option Checkpoint) → IsSavingPart g start point_then point_leaves_then → IsSavingPart g start point point_leaves
+  saving_then g start is = record {
+    finished = is.finished;
+    no_batch = is.no_batch;
     point = is.point;
-    any_moment = λ belongs knows rest fit.
-        let there : content mid ≡ settled (content mid).seen = reads.same ∙ (rest ∙ ap (λ (k : Content). settled k.seen) (sym reads.same)) in
-        let seen : (content mid).seen ≡ (content old).seen = ap (λ (k : Content). k.seen) reads.same in
-        let after : LeavesOnly moment left_since mid new (IsLeftBySave shape is.entries is.point (content old).seen) =
-        subst (λ x. LeavesOnly moment left_since mid new (IsLeftBySave shape is.entries is.point x)) seen (is.any_moment belongs knows there (subst (λ x. IsFit shape is.entries x) (sym seen) fit)) in
-        let before : LeavesOnly moment left_since old mid (IsLeftBySave shape is.entries is.point (content old).seen) =
-        weaker moment left_since old mid (Image (content old)) _ (λ image left. subst (IsLeftBySave shape is.entries is.point (content old).seen) (sym (image_settled (content old).seen image (subst (λ k. Image k image) rest left))) (left_same shape is.entries is.point (content old).seen fit)) reads.quiet in
-        joined moment left_since old mid new (IsLeftBySave shape is.entries is.point (content old).seen) before after;
+    whole = is.whole;
+    crash = λ whole w knows rest fit.
+        let shape = g.script.shape in
+        let entries = w.before ++ g.entries in
+        let seen = (content old_points).seen in
+        let there : content mid_points ≡ settled (content mid_points).seen = reads.same ∙ (rest ∙ ap (λ (k : Content). settled k.seen) (sym reads.same)) in
+        let same : (content mid_points).seen ≡ seen = ap (λ (k : Content). k.seen) reads.same in
+        let after : LeavesOnly moment left_since mid_points points (IsLeftBySave shape entries is.point seen) =
+        subst (λ x. LeavesOnly moment left_since mid_points points (IsLeftBySave shape entries is.point x)) same (is.crash whole w knows there (subst (λ x. IsFit shape entries x) (sym same) fit)) in
+        let before : LeavesOnly moment left_since old_points mid_points (IsLeftBySave shape entries is.point seen) =
+        weaker moment left_since old_points mid_points (Image (content old_points)) _ (λ image left. subst (IsLeftBySave shape entries is.point seen) (sym (image_settled seen image (subst (λ k. Image k image) rest left))) (left_same shape entries is.point seen fit)) reads.quiet in
+        joined moment left_since old_points mid_points points (IsLeftBySave shape entries is.point seen) before after;
   }
 
-  pub leaves_then : (shape : Shape) (on : OpenedDevices) (may : Bool) (acked : ℕ) → (options.from_point ≡ false → mid ≡ old)
-      → LeavesPoint options content moment left_since faults_of mid new may (IsSavingPart options shape on content moment left_since mid new acked)
-      → LeavesPoint options content moment left_since faults_of old new may (IsSavingPart options shape on content moment left_since old new acked)
-  leaves_then shape on may acked unasked is = record {
-    later = omega (arith, reads.later, is.later);
-    unused = λ start save. is.unused start save ∙ unasked start;
-    unsaved = λ none. reads_then content moment left_since faults_of old mid new reads (is.unsaved none);
-    left = ⊎_elim (λ only. inl (reads_then content moment left_since faults_of old mid new reads only))
-        (λ saving. inr (record { found = saving.found; was_found = saving.was_found; start = saving.start; starts = saving.starts; is = saving_then shape on.tells saving.found saving.start acked saving.is })) is.left;
+  pub run_then : {V : Type 0} (items : V → Text) (script : Workload) (h : Header) (bodies : List (List ℕ)) (text : Result V Status) (acked : ℕ) → (IsTrue tells → LeavesOnly moment left_since old mid (Holds h bodies))
+      → IsRunPart items options script h bodies log_then point_then (LeavesOnly moment left_since mid new) point_leaves_then text acked → IsRunPart items options script h bodies log point (LeavesOnly moment left_since old new) point_leaves text acked
+  run_then items script h bodies text acked quiet p = record {
+    g = p.g;
+    start = p.start;
+    script_is = p.script_is;
+    header_is = p.header_is;
+    was_found = p.was_found;
+    begins = p.begins;
+    leads_to = p.leads_to;
+    moves = p.moves;
+    calm = p.calm;
+    runs = p.runs;
+    lawful = p.lawful;
+    few = p.few;
+    asked = p.asked;
+    no_batch = λ never. p.no_batch (λ rose. never (let r = rose in omega (arith, later, r)));
+    text_is = IfOk-weaker text _ _ (λ v is. record { finished = is.finished; no_batch = is.no_batch; results = is.results; told = is.told; text_is = is.text_is; saved = is.saved }) p.text_is;
+    cause = IfErr-weaker text _ _ (fault_then h bodies) p.cause;
+    comes_first = IfErr-weaker text _ _ (first_then p.g) p.comes_first;
+    acked_is = p.acked_is;
+    now = p.now;
+    ever = λ knows. joined moment left_since old mid new _ (weaker moment left_since old mid (Holds h bodies) _ (λ image holds. inl holds) (quiet knows)) (p.ever knows);
+    starts = subst (λ (k : Content). IsStart tells options.from_point h k.seen p.g.found p.start) reads.same p.starts;
+    kept = ⊎_elim (λ only. inl (read_then only)) (λ saving. inr (saving.0, saving_then p.g p.start saving.1)) p.kept;
   }
-
-  -- where the run is refused
-  pub refused_then : (may : Bool) (saving : Type 0) → (options.from_point ≡ false → mid ≡ old) → LeavesPoint options content moment left_since faults_of old mid may saving
-  refused_then may saving unasked = record { later = reads.later; unused = λ start save. unasked start; unsaved = λ none. reads; left = inl reads }
 
 -- ---- why a log was not restarted
 
@@ -103,14 +150,29 @@ refused_by (Err e) f is = let same : e ≡ f = cc is in ap Err same
 refused_as : (r : Result (List EntryKind × Option Checkpoint) RestartError) (e : RestartError) (s : Status) → restart_refused (Err e) ≡ Some s → entries_for r ≡ Err e → restart_refused r ≡ Some s
 refused_as r e s told is = ap restart_refused (refused_by r e is) ∙ told
 
-pub restart_cause : (options : RunOptions) (asked : Shape) (on : OpenedDevices) (counts : FaultCounts) (acked : ℕ) (e : RestartError) → (IsTrue on.tells → RefusesRestart e (entries_for (restart_in on.shape on.bodies options.from_point on.points))) → acked ≡ length on.bodies
-    → (e ≡ restarting.LogDevice → Rose counts.log counts.log_now) → (e ≡ restarting.PointsDevice → HasFailed options counts which.Points) → IsRanFault options asked on counts acked (restart_fault e)
-restart_cause options asked on counts acked restarting.Memory refuses counted log points = tt
-restart_cause options asked on counts acked restarting.LogDevice refuses counted log points = log refl
-restart_cause options asked on counts acked restarting.PointsDevice refuses counted log points = points refl
-restart_cause options asked on counts acked (restarting.BadEntry pos bad) refuses counted log points = inl (λ knows. refused_as (restart_in on.shape on.bodies options.from_point on.points) (restarting.BadEntry pos bad) _ refl (refuses knows), counted)
-restart_cause options asked on counts acked (restarting.BadPoint bad) refuses counted log points = inl (λ knows. refused_as (restart_in on.shape on.bodies options.from_point on.points) (restarting.BadPoint bad) _ refl (refuses knows), counted)
-restart_cause options asked on counts acked (restarting.Ahead point held) refuses counted log points = inl (λ knows. refused_as (restart_in on.shape on.bodies options.from_point on.points) (restarting.Ahead point held) _ refl (refuses knows), counted)
+pub restart_cause : (options : RunOptions) (h : Header) (bodies : List (List ℕ)) (log points : Over) (e : RestartError) → (IsTrue log.tells → RefusesRestart e (entries_for (restart_in h bodies options.from_point points.before.seen)))
+    → (e ≡ restarting.LogDevice → HasFailed log) → (e ≡ restarting.PointsDevice → (options.from_point ≡ true) × HasFailed points) → IsRanFault options h bodies log points (restart_fault e)
+restart_cause options h bodies log points restarting.Memory refuses failed point_failed = tt
+restart_cause options h bodies log points restarting.LogDevice refuses failed point_failed = failed refl
+restart_cause options h bodies log points restarting.PointsDevice refuses failed point_failed = let both = point_failed refl in (or_left options.from_point options.save both.0, both.1)
+restart_cause options h bodies log points (restarting.BadEntry pos bad) refuses failed point_failed = λ knows. refused_as (restart_in h bodies options.from_point points.before.seen) (restarting.BadEntry pos bad) _ refl (refuses knows)
+restart_cause options h bodies log points (restarting.BadPoint bad) refuses failed point_failed = λ knows. refused_as (restart_in h bodies options.from_point points.before.seen) (restarting.BadPoint bad) _ refl (refuses knows)
+restart_cause options h bodies log points (restarting.Ahead at held) refuses failed point_failed = λ knows. refused_as (restart_in h bodies options.from_point points.before.seen) (restarting.Ahead at held) _ refl (refuses knows)
+restart_cause options h bodies log points (restarting.Behind base from) refuses failed point_failed = λ knows. refused_as (restart_in h bodies options.from_point points.before.seen) (restarting.Behind base from) _ refl (refuses knows)
+
+-- a point was asked for
+asked_for : (b : Bool) → (b ≡ false → ⊥) → b ≡ true
+asked_for true never = refl
+asked_for false never = absurd (never refl)
+
+pub restart_first : (options : RunOptions) (h : Header) (bodies : List (List ℕ)) (points : Over) (e : RestartError) → (IsOfLog e → points.uncalled) → (IsOfPoint e → options.from_point ≡ false → ⊥) → Fits options false (restart_fault e) points (opened h bodies)
+restart_first options h bodies points restarting.Memory first asked = tt
+restart_first options h bodies points restarting.LogDevice first asked = first tt
+restart_first options h bodies points restarting.PointsDevice first asked = asked_for options.from_point (asked tt)
+restart_first options h bodies points (restarting.BadEntry pos bad) first asked = (tt, first tt)
+restart_first options h bodies points (restarting.BadPoint bad) first asked = (tt, asked_for options.from_point (asked tt))
+restart_first options h bodies points (restarting.Ahead at held) first asked = (tt, asked_for options.from_point (asked tt))
+restart_first options h bodies points (restarting.Behind base from) first asked = tt
 
 -- why there is no text, where it is known
 pub err_with : {V : Type 0} (text : Result V Status) (answer : Status) (P : Status → Type 0) → text ≡ Err answer → P answer → IfErr text P

@@ -1,14 +1,14 @@
 -- What the forms with one first word make of fields.
-use Rattle.std.proofs.Common.{arith, ◌≡◌, sym, ℕ, ◌<◌, ◌≤◌, get_or, Bool, true, false, ◌||◌, ◌==◌, List, [], ◌∷◌, length, refl, ap, ◌∙◌, if◌then◌else◌}
+use Rattle.std.proofs.Common.{arith, ◌≡◌, sym, ℕ, ◌<◌, ◌≤◌, get_or, Bool, true, false, ◌||◌, List, [], ◌∷◌, length, refl, ap, ◌∙◌, if◌then◌else◌}
 use Rattle.std.specs.Prelude.{Option, Some, None, option_and_then, Result, Ok, Err, IsErrAnd, ok_or}
-use Rattle.std.specs.List.{list_any}
+use Rattle.std.specs.List.{AllByRecursion, list_any}
 use Rattle.std.specs.Option.{option_map_or}
 use Rattle.std.proofs.lemmas.Bool.{ne_eqb}
 use Prim.Native.String.{String}
 use Rattle.hy_base.specs.Script.{Workload}
 use Rattle.hy_script.specs.Grammar.{event_forms, makes_if, publish, stop}
 use Rattle.hy_base.specs.Spelling.{Text, number_of}
-use Rattle.hy_script.specs.Forms.{Meaning, LineForm, Alone, OneNumber, TwoNumbers, ThreeNumbers, NumberAndText, judged_words, read_line, read_fields, meaning_of, field_count, is_blank}
+use Rattle.hy_script.specs.Forms.{Meaning, LineForm, Alone, OneNumber, TwoNumbers, ThreeNumbers, NumberAndText, judged_words, read_line, read_fields, meaning_of, has_form, form_with, is_blank}
 use Rattle.hy_script.specs.Fields.{HasFields, HasWords, and_then, in_range, one_number, two_numbers, three_numbers, number_and_text, no_fields}
 use Rattle.hy_base.specs.Shape.{is_within}
 use Rattle.hy_base.specs.declared.workload.Event.{Event}
@@ -16,7 +16,7 @@ use Rattle.hy_script.specs.declared.words.Fields.{Fields}
 use Rattle.hy_script.specs.declared.why.Why.{Why}
 use Rattle.hy_script.specs.declared.why.Why.TheVariants.{Form, Number, Range}
 
-same_either : {A : Type 0} (t : Bool) (x : A) → (if t then x else x) ≡ x
+pub same_either : {A : Type 0} (t : Bool) (x : A) → (if t then x else x) ≡ x
 same_either true x = refl
 same_either false x = refl
 
@@ -25,21 +25,43 @@ found_one : {T : Type 0} (found : Option ℕ) (meaning : ℕ → Meaning T)
 found_one None meaning = refl
 found_one (Some n) meaning = refl
 
-one_field : {T : Type 0} (t : Bool) (meaning : ℕ → Meaning T) (found : Option ℕ)
+pub one_field : {T : Type 0} (t : Bool) (meaning : ℕ → Meaning T) (found : Option ℕ)
     → (if t || false then Err Form else option_map_or (λ m. judged_words m) (option_and_then (λ l. Some (meaning l)) found) (Err Number))
     ≡ and_then (if t then Err Form else ok_or found Number) (λ n. judged_words (meaning n))
 one_field true meaning found = refl
 one_field false meaning found = found_one found meaning
 
-by_count : {T : Type 0} (s e : Bool) (form : LineForm T) (fields : List Text) → e ≡ false
-    → (if s then Err Form else elim (if e then Some form else None) [ None ↦ Err Form | Some f ↦ option_map_or (λ m. judged_words m) (meaning_of f fields) (Err Number) ]) ≡ Err Form
-by_count true e form fields not = refl
-by_count false true form fields not = cc
-by_count false false form fields not = refl
+-- what fields make once their form is found
+found_by : {T : Type 0} (s : Bool) (found : Option (LineForm T)) (form : LineForm T) (fields : List Text) → found ≡ Some form
+    → (if s then Err Form else elim found [ None ↦ Err Form | Some f ↦ option_map_or (λ m. judged_words m) (meaning_of f fields) (Err Number) ])
+    ≡ (if s then Err Form else option_map_or (λ m. judged_words m) (meaning_of form fields) (Err Number))
+found_by s None form fields is = cc
+found_by s (Some f) form fields is =
+    let same : f ≡ form = cc is in ap (λ g. if s then Err Form else option_map_or (λ m. judged_words m) (meaning_of g fields) (Err Number)) same
 
--- another number of fields than the form has
-pub other_count : {T : Type 0} (form : LineForm T) (fields : List Text) → (field_count form == length fields) ≡ false → read_fields (form ∷ []) fields ≡ Err Form
-other_count form fields not = by_count (list_any is_blank fields) (field_count form == length fields) form fields not
+found_none : {T : Type 0} (s : Bool) (found : Option (LineForm T)) (fields : List Text) → found ≡ None
+    → (if s then Err Form else elim found [ None ↦ Err Form | Some f ↦ option_map_or (λ m. judged_words m) (meaning_of f fields) (Err Number) ]) ≡ Err Form
+found_none true found fields none = refl
+found_none false None fields none = refl
+found_none false (Some f) fields none = cc
+
+pub reads_by : {T : Type 0} (forms : List (LineForm T)) (form : LineForm T) (fields : List Text) → form_with fields forms ≡ Some form
+    → read_fields forms fields ≡ (if list_any is_blank fields then Err Form else option_map_or (λ m. judged_words m) (meaning_of form fields) (Err Number))
+reads_by forms form fields is = found_by (list_any is_blank fields) (form_with fields forms) form fields is
+
+-- the fields are of none of these forms
+abbrev pub AreOfNone : {T : Type 0} → List (LineForm T) → List Text → Type 0
+AreOfNone forms fields = AllByRecursion (λ form. has_form form fields ≡ false) forms
+
+none_with : {T : Type 0} (forms : List (LineForm T)) (fields : List Text) → AreOfNone forms fields → form_with fields forms ≡ None
+none_with [] fields none = refl
+none_with (form ∷ forms) fields none = ap (λ t. if t then Some form else form_with fields forms) none.0 ∙ none_with forms fields none.1
+
+pub no_form : {T : Type 0} (forms : List (LineForm T)) (fields : List Text) → AreOfNone forms fields → read_fields forms fields ≡ Err Form
+no_form forms fields none = found_none (list_any is_blank fields) (form_with fields forms) fields (none_with forms fields none)
+
+pub other_count : {T : Type 0} (form : LineForm T) (fields : List Text) → has_form form fields ≡ false → read_fields (form ∷ []) fields ≡ Err Form
+other_count form fields not = no_form (form ∷ []) fields (not, tt)
 
 pub read_one : {T : Type 0} (name : String) (meaning : ℕ → Meaning T) (fields : List Text)
     → read_fields (OneNumber name meaning ∷ []) fields ≡ and_then (one_number fields) (λ n. judged_words (meaning n))
@@ -47,7 +69,7 @@ read_one name meaning [] = refl
 read_one name meaning (a ∷ []) = one_field (is_blank a) meaning (number_of a)
 read_one name meaning (a ∷ b ∷ rest) = other_count (OneNumber name meaning) (a ∷ b ∷ rest) (ne_eqb 1 (length (a ∷ b ∷ rest)) (omega arith))
 
-two_fields : {T : Type 0} (t : Bool) (meaning : ℕ → ℕ → Meaning T) (x y : Option ℕ)
+pub two_fields : {T : Type 0} (t : Bool) (meaning : ℕ → ℕ → Meaning T) (x y : Option ℕ)
     → (if t then Err Form else option_map_or (λ m. judged_words m) (option_and_then (λ l. option_and_then (λ m. Some (meaning l m)) y) x) (Err Number))
     ≡ and_then {A = ℕ × ℕ} (if t then Err Form else and_then (ok_or x Number) (λ l. and_then {B = ℕ × ℕ} (ok_or y Number) (λ m. Ok (l, m)))) (λ p. judged_words (meaning p.0 p.1))
 two_fields true meaning x y = refl
@@ -100,7 +122,7 @@ publish_line script entry cut named told = told cut.0 cut.2 ∙ sym (letter_line
 pub stop_line : (script : Workload) {words : List Text} {word : Text} (entry : Fields) → HasWords words word entry → word ≡ 116 ∷ [] → {read : Result Event Why} → ((fields : List Text) → HasFields entry fields → read ≡ and_then (two_numbers fields) (λ p. judged_words (stop p.0 p.1))) → read ≡ read_line (event_forms script) words
 stop_line script entry cut named told = told cut.0 cut.2 ∙ sym (letter_line script 116 cut.1 named (read_two "t" stop cut.0))
 
-three_fields : {T : Type 0} (t : Bool) (meaning : ℕ → ℕ → ℕ → Meaning T) (x y z : Option ℕ)
+pub three_fields : {T : Type 0} (t : Bool) (meaning : ℕ → ℕ → ℕ → Meaning T) (x y z : Option ℕ)
     → (if t then Err Form else option_map_or (λ m. judged_words m) (option_and_then (λ l. option_and_then (λ m. option_and_then (λ n. Some (meaning l m n)) z) y) x) (Err Number))
     ≡ and_then {A = ℕ × ℕ × ℕ} (if t then Err Form else and_then (ok_or x Number) (λ l. and_then {B = ℕ × ℕ × ℕ} (ok_or y Number) (λ m. and_then {B = ℕ × ℕ × ℕ} (ok_or z Number) (λ n. Ok (l, m, n))))) (λ p. judged_words (meaning p.0 p.1 p.2))
 three_fields true meaning x y z = refl
@@ -116,6 +138,19 @@ read_three name meaning (a ∷ []) = other_count (ThreeNumbers name meaning) (a 
 read_three name meaning (a ∷ b ∷ []) = other_count (ThreeNumbers name meaning) (a ∷ b ∷ []) refl
 read_three name meaning (a ∷ b ∷ c ∷ []) = three_fields (list_any is_blank (a ∷ b ∷ c ∷ [])) meaning (number_of a) (number_of b) (number_of c)
 read_three name meaning (a ∷ b ∷ c ∷ d ∷ rest) = other_count (ThreeNumbers name meaning) (a ∷ b ∷ c ∷ d ∷ rest) (ne_eqb 3 (length (a ∷ b ∷ c ∷ d ∷ rest)) (omega arith))
+
+pub four_fields : {T : Type 0} (t : Bool) (meaning : ℕ → ℕ → ℕ → ℕ → Meaning T) (w x y z : Option ℕ)
+    → (if t then Err Form
+    else option_map_or (λ m. judged_words m) (option_and_then (λ k. option_and_then (λ l. option_and_then (λ m. option_and_then (λ n. Some (meaning k l m n)) z) y) x) w) (Err Number))
+    ≡ and_then {A = ℕ × ℕ × ℕ × ℕ} (if t then Err Form
+    else and_then (ok_or w Number) (λ k. and_then {B = ℕ × ℕ × ℕ × ℕ} (ok_or x Number) (λ l. and_then {B = ℕ × ℕ × ℕ × ℕ} (ok_or y Number) (λ m. and_then {B = ℕ × ℕ × ℕ × ℕ} (ok_or z Number) (λ n. Ok (k, l, m, n))))))
+    (λ p. judged_words (meaning p.0 p.1 p.2 p.3))
+four_fields true meaning w x y z = refl
+four_fields false meaning None x y z = refl
+four_fields false meaning (Some k) None y z = refl
+four_fields false meaning (Some k) (Some l) None z = refl
+four_fields false meaning (Some k) (Some l) (Some m) None = refl
+four_fields false meaning (Some k) (Some l) (Some m) (Some n) = refl
 
 text_fields : {T : Type 0} (t : Bool) (meaning : ℕ → Text → Meaning T) (x : Option ℕ) (text : Text)
     → (if t then Err Form else option_map_or (λ m. judged_words m) (option_and_then (λ l. Some (meaning l text)) x) (Err Number))

@@ -1,52 +1,109 @@
 -- From what a line was read as, to its words.
-use Rattle.std.proofs.Common.{eqb-true, ltb-true, ◌≡◌, ℕ, ◌<◌, ◌%◌, ◌==◌, Bool, true, ◌&&◌, List, [], ◌∷◌, length, sym, ap, subst, ◌∙◌, if◌then◌else◌, nat_lt, nat_le}
-use Rattle.std.specs.Prelude.{Ok, Err, bytes_eq, codes, decimal}
-use Rattle.std.proofs.lemmas.Bool.{and_parts, leb-true}
+use Rattle.std.proofs.Common.{arith, zero, suc, refl, eqb-true, ltb-true, ◌≡◌, ◌==◌, ℕ, ◌<◌, ◌^◌, ◌%◌, Bool, true, false, ◌&&◌, List, [], ◌∷◌, length, sym, ap, subst, ◌∙◌, if◌then◌else◌, nat_lt, nat_le}
+use Rattle.std.specs.Fmt.{digits}
+use Rattle.std.specs.Prelude.{Some, None, Ok, Err, is_ok, ok_or, bytes_eq, codes, decimal}
+use Rattle.std.proofs.lemmas.Bool.{and_parts, eq-eqb, leb-true, ne_eqb}
+use Rattle.std.proofs.lemmas.Slice.Eq.{bytes_eq-Decides}
 use Rattle.hy_base.specs.declared.layout.Shape.{Shape}
+use Rattle.hy_base.specs.declared.workload.Mode.{Mode}
+use Rattle.hy_base.specs.declared.record.Isolation.TheVariants.{Serializable, Snapshot}
 use Rattle.hy_base.specs.declared.workload.Command.{Command}
 use Rattle.hy_base.specs.declared.workload.Command.TheVariants.{Get, Put, Del, Add, Scan}
-use Rattle.hy_base.specs.Script.{Workload, IsCommand, client_count}
-use Rattle.hy_base.specs.Shape.{IsWithin, IsGoodShape, is_within}
+use Rattle.hy_base.specs.Entry.{is_told}
+use Rattle.hy_base.specs.Script.{Workload, IsCommand, IsReading, client_count}
+use Rattle.hy_base.specs.Shape.{newest_version, shape_fault, IsWithin, IsGoodShape, is_within}
 use Rattle.hy_base.specs.Spelling.{Text}
 use Rattle.hy_base.specs.Value.{is_value}
 use Rattle.hy_base.specs.Limits.{IsServerNumber}
 use Rattle.hy_base.proofs.ShapeLemmas.{is_within-true}
-use Rattle.hy_script.specs.Fields.{and_then, one_number, two_numbers, three_numbers, number_and_text, no_fields}
-use Rattle.hy_script.specs.Grammar.{is_shape, last_program_count}
-use Rattle.hy_script.specs.ScriptLaws.{FitsFields}
-use Rattle.hy_script.specs.ScriptFields.{client_fields, begin_fields, listing_line, number_within, one_more, program_line, put_fields, scan_fields, servers_line, shape_fields, shape_line}
-use Rattle.hy_script.specs.ScriptSpelling.{command_words}
+use Rattle.hy_script.specs.Fields.{and_then, one_number, two_numbers, three_numbers, four_numbers, number_and_text, no_fields}
+use Rattle.hy_script.specs.Grammar.{plain_mode, mode_at, is_position, last_program_count}
+use Rattle.hy_script.specs.LineParts.{IsMode}
+use Rattle.hy_base.proofs.NumberLemmas.{number_of_decimal}
+use Rattle.hy_script.specs.ScriptLaws.{FitsFields, plain}
+use Rattle.hy_script.specs.ScriptFields.{client_fields, begin_fields, one_more_program, listing_line, mode_fields, number_within, one_more, position_field, program_line, put_fields, scan_fields, writing_line, servers_fields, servers_line, servers_numbers, servers_within, as_shape, good_shape, shape_fields, shape_line, shape_numbers, told_by_three, told_by_four, told_with_horizon}
+use Rattle.hy_script.specs.ScriptSpelling.{asked_fields, begin_words, command_words, servers_words, spelled_shape}
+use Rattle.hy_script.specs.declared.script.ToldServers.{ToldServers}
+use Rattle.hy_script.specs.declared.script.ToldShape.{ToldShape}
 use Rattle.hy_script.specs.declared.script.ListingLine.{ListingLine}
 use Rattle.hy_script.specs.declared.script.ListingLine.TheVariants.{Client, Begin, Schedule}
 use Rattle.hy_script.specs.declared.script.ProgramLine.{ProgramLine}
 use Rattle.hy_script.specs.declared.script.ProgramLine.TheVariants.{Next, End}
-use Rattle.hy_script.specs.declared.why.Why.TheVariants.{Word, Value, Range, Order, Count}
-use Rattle.hy_script.proofs.FieldsRead.{and_then_was, branch, if_was, none_was, one_was, text_was, three_was, two_was, words_are}
+use Rattle.hy_script.specs.declared.why.Why.TheVariants.{Word, Form, Value, Range, Order, Count, Version}
+use Rattle.hy_script.proofs.ShapeLines.{passes_good}
+use Rattle.hy_script.proofs.FieldsRead.{and_then_was, branch, if_was, else_was, none_was, one_was, text_was, three_was, four_was, two_was, words_are}
 
 -- the shape and the servers
 
 pub record IsShapeLine (words : List Text) (shape : Shape) : Type 0 where
-  pub are : words ≡ codes "shape" ∷ decimal shape.group ∷ decimal shape.window ∷ decimal shape.cap ∷ []
+  pub are : plain words ≡ spelled_shape shape
   pub good : IsGoodShape shape
 
-shape_tests : (p : ℕ × ℕ × ℕ) → is_shape p.0 p.1 p.2 ≡ true → IsGoodShape (record { group = p.0; window = p.1; cap = p.2 })
-shape_tests p e =
-    let c = and_parts (is_within 1 8 p.0) _ e in
-    let d = and_parts (is_within 1 64 p.1) _ c.1 in
-    let f = and_parts (is_within p.0 2147483648 p.2) (p.2 % p.0 == 0) d.1 in
-    record { group = is_within-true 1 8 p.0 c.0; window = is_within-true 1 64 p.1 d.0; cap = is_within-true p.0 2147483648 p.2 f.0; whole_groups = eqb-true (p.2 % p.0) 0 f.1 }
+-- numbers as a shape's fields tell them: version 1 by no word
+abbrev AreShapeNumbers : List Text → ToldShape → Type 0
+AreShapeNumbers fields t = IsWithin 1 newest_version t.version → plain (codes "shape" ∷ fields) ≡ spelled_shape (as_shape t)
+
+-- a version without a horizon
+plain_version : (group window cap version : ℕ) → AreShapeNumbers (decimal group ∷ decimal window ∷ decimal cap ∷ decimal version ∷ []) (record { group = group; window = window; cap = cap; version = version; horizon = None })
+unfolding digits
+plain_version group window cap zero = λ within. absurd (omega (arith, within.at_least))
+plain_version group window cap (suc zero) = λ within. refl
+plain_version group window cap (suc (suc zero)) = λ within. refl
+plain_version group window cap (suc (suc (suc zero))) = λ within. refl
+plain_version group window cap (suc (suc (suc (suc n)))) = λ within. absurd (omega (arith, within.at_most))
+
+plain_horizon : (group window cap horizon : ℕ)
+    → AreShapeNumbers (decimal group ∷ decimal window ∷ decimal cap ∷ codes "3" ∷ decimal horizon ∷ []) (record { group = group; window = window; cap = cap; version = 3; horizon = Some horizon })
+unfolding digits
+plain_horizon group window cap horizon = λ within. refl
+
+three_were : (fields : List Text) (t : ToldShape) → told_by_three fields ≡ Ok t → AreShapeNumbers fields t
+three_were fields t e =
+    let step = and_then_was {B = ToldShape} (three_numbers fields) (λ p. Ok (record { group = p.0; window = p.1; cap = p.2; version = 1; horizon = None })) t e in
+    let told : ToldShape = record { group = step.0.0; window = step.0.1; cap = step.0.2; version = 1; horizon = None } in
+    let same : told ≡ t = cc (step.2) in
+    subst (AreShapeNumbers fields) same (λ within. ap (λ l. plain (codes "shape" ∷ l)) (three_was fields step.0 step.1).words)
+
+four_were : (fields : List Text) (t : ToldShape) → told_by_four fields ≡ Ok t → AreShapeNumbers fields t
+four_were fields t e =
+    let step = and_then_was {B = ToldShape} (four_numbers fields) (λ p. Ok (record { group = p.0; window = p.1; cap = p.2; version = p.3; horizon = None })) t e in
+    let told : ToldShape = record { group = step.0.0; window = step.0.1; cap = step.0.2; version = step.0.3; horizon = None } in
+    let same : told ≡ t = cc (step.2) in
+    subst (AreShapeNumbers fields) same (subst (λ l. AreShapeNumbers l told) (sym (four_was fields step.0 step.1).words) (plain_version step.0.0 step.0.1 step.0.2 step.0.3))
+
+five_were : (a b c d e : Text) (t : ToldShape) → bytes_eq d (codes "3") ≡ true → told_with_horizon (a ∷ b ∷ c ∷ e ∷ []) ≡ Ok t → AreShapeNumbers (a ∷ b ∷ c ∷ d ∷ e ∷ []) t
+five_were a b c d e t third read =
+    let step = and_then_was {B = ToldShape} (four_numbers (a ∷ b ∷ c ∷ e ∷ [])) (λ p. Ok (record { group = p.0; window = p.1; cap = p.2; version = 3; horizon = Some p.3 })) t read in
+    let told : ToldShape = record { group = step.0.0; window = step.0.1; cap = step.0.2; version = 3; horizon = Some step.0.3 } in
+    let same : told ≡ t = cc (step.2) in
+    let words : a ∷ b ∷ c ∷ d ∷ e ∷ [] ≡ decimal step.0.0 ∷ decimal step.0.1 ∷ decimal step.0.2 ∷ codes "3" ∷ decimal step.0.3 ∷ [] =
+    cc ((four_was (a ∷ b ∷ c ∷ e ∷ []) step.0 step.1).words, (bytes_eq-Decides d (codes "3")).0 third) in
+    subst (AreShapeNumbers (a ∷ b ∷ c ∷ d ∷ e ∷ [])) same (subst (λ l. AreShapeNumbers l told) (sym words) (plain_horizon step.0.0 step.0.1 step.0.2 step.0.3))
+
+numbers_were : (fields : List Text) (t : ToldShape) → shape_numbers fields ≡ Ok t → AreShapeNumbers fields t
+numbers_were [] t e = cc
+numbers_were (a ∷ []) t e = cc
+numbers_were (a ∷ b ∷ []) t e = cc
+numbers_were (a ∷ b ∷ c ∷ []) t e = three_were (a ∷ b ∷ c ∷ []) t e
+numbers_were (a ∷ b ∷ c ∷ d ∷ []) t e = four_were (a ∷ b ∷ c ∷ d ∷ []) t (else_was (bytes_eq d (codes "3")) (told_by_four (a ∷ b ∷ c ∷ d ∷ [])) Form t e).1
+numbers_were (a ∷ b ∷ c ∷ d ∷ f ∷ []) t e =
+    let third = if_was (bytes_eq d (codes "3")) (told_with_horizon (a ∷ b ∷ c ∷ f ∷ [])) Form t e in five_were a b c d f t third.0 third.1
+numbers_were (a ∷ b ∷ c ∷ d ∷ f ∷ g ∷ rest) t e = cc
+
+-- what is made where a test is met
+made_was : {A : Type 0} (t : Bool) (a b : A) → ok_or (if t then Some a else None) Range ≡ Ok b → (t ≡ true) × (a ≡ b)
+made_was true a b e = (refl, cc e)
+made_was false a b e = cc
 
 pub shape_was : (words : List Text) (shape : Shape) → shape_line words ≡ Ok shape → IsShapeLine words shape
 shape_was [] shape e = cc
 shape_was (word ∷ fields) shape e =
     let named = if_was (bytes_eq word (codes "shape")) (shape_fields fields) Word shape e in
-    let read = and_then_was (three_numbers fields) (λ p. if is_shape p.0 p.1 p.2 then Ok (record { group = p.0; window = p.1; cap = p.2 }) else Err Range) shape named.1 in
-    let p = read.0 in
-    let numbers = three_was fields p read.1 in
-    let tested = if_was (is_shape p.0 p.1 p.2) (Ok (record { group = p.0; window = p.1; cap = p.2 })) Range shape read.2 in
-    let good = shape_tests p tested.0 in
-    let same : record { group = p.0; window = p.1; cap = p.2 } ≡ shape = cc (tested.1) in
-    subst (IsShapeLine (word ∷ fields)) same (record { are = words_are word (codes "shape") fields _ named.0 numbers.words; good = good })
+    let read = and_then_was (shape_numbers fields) (λ t. ok_or (good_shape t) Range) shape named.1 in
+    let tested = made_was (is_ok (shape_fault (as_shape read.0))) (as_shape read.0) shape read.2 in
+    let good = passes_good (as_shape read.0) tested.0 in
+    subst (IsShapeLine (word ∷ fields)) tested.1
+    (record { are = ap plain (words_are word (codes "shape") fields fields named.0 refl) ∙ numbers_were fields read.0 read.1 good.version; good = good })
 
 pub number_within_was : (low high : ℕ) (fields : List Text) (n : ℕ) → number_within low high fields ≡ Ok n → (fields ≡ decimal n ∷ []) × IsWithin low high n
 number_within_was low high fields n e =
@@ -55,18 +112,62 @@ number_within_was low high fields n e =
     let same : read.0 ≡ n = cc (tested.1) in
     (subst (λ k. fields ≡ decimal k ∷ []) same (one_was fields read.0 read.1).0, subst (IsWithin low high) same (is_within-true low high read.0 tested.0))
 
-pub servers_was : (words : List Text) (n : ℕ) → servers_line words ≡ Ok n → (words ≡ codes "servers" ∷ decimal n ∷ []) × IsServerNumber n
-servers_was [] n e = cc
-servers_was (word ∷ fields) n e =
-    let named = if_was (bytes_eq word (codes "servers")) (number_within 1 8 fields) Word n e in
-    let was = number_within_was 1 8 fields n named.1 in
-    (words_are word (codes "servers") fields _ named.0 was.0, was.1)
+pub record IsServersLine (words : List Text) (told : ToldServers) : Type 0 where
+  pub are : plain words ≡ servers_words told.servers told.keeps
+  pub servers : IsServerNumber told.servers
+  pub keeps : IsWithin 1 64 told.keeps
+
+-- a number is spelled 1 where it is 1
+one_spelled : (t : Bool) (keeps : ℕ) → keeps < 2 ^ 64 → bytes_eq (decimal keeps) (codes "1") ≡ t → (keeps == 1) ≡ t
+unfolding digits
+one_spelled true keeps small e =
+    let spelled = number_of_decimal (decimal keeps) keeps small refl in
+    let one = number_of_decimal (codes "1") 1 (omega arith) refl in
+    let same : keeps ≡ 1 = cc (spelled, one, (bytes_eq-Decides (decimal keeps) (codes "1")).0 e) in
+    eq-eqb keeps 1 same
+one_spelled false keeps small e = ne_eqb keeps 1 (λ is. cc (subst (λ k. bytes_eq (decimal k) (codes "1") ≡ false) is e))
+
+-- one board is told by no number
+two_plain : (servers keeps : ℕ) → keeps < 2 ^ 64 → plain (codes "servers" ∷ decimal servers ∷ decimal keeps ∷ []) ≡ servers_words servers keeps
+two_plain servers keeps small = by (keeps == 1) (bytes_eq (decimal keeps) (codes "1")) (one_spelled (bytes_eq (decimal keeps) (codes "1")) keeps small refl) where
+  by : (t u : Bool) → t ≡ u → (if u then codes "servers" ∷ decimal servers ∷ [] else codes "servers" ∷ decimal servers ∷ decimal keeps ∷ []) ≡ codes "servers" ∷ decimal servers ∷ (if t then [] else decimal keeps ∷ [])
+  by true true e = refl
+  by true false e = cc
+  by false true e = cc
+  by false false e = refl
+
+servers_numbers_were : (fields : List Text) (p : ℕ × ℕ) → servers_numbers fields ≡ Ok p → plain (codes "servers" ∷ fields) ≡ servers_words p.0 p.1
+servers_numbers_were [] p e = cc
+servers_numbers_were (a ∷ []) p e =
+    let step = and_then_was {B = ℕ × ℕ} (one_number (a ∷ [])) (λ n. Ok (n, 1)) p e in
+    let pair : ℕ × ℕ = (step.0, 1) in
+    let same : pair ≡ p = cc (step.2) in
+    subst {A = ℕ × ℕ} (λ q. plain (codes "servers" ∷ a ∷ []) ≡ servers_words q.0 q.1) same (ap (λ l. codes "servers" ∷ l) (one_was (a ∷ []) step.0 step.1).0)
+servers_numbers_were (a ∷ b ∷ []) p e = let were = two_was (a ∷ b ∷ []) p e in ap (λ l. plain (codes "servers" ∷ l)) were.words ∙ two_plain p.0 p.1 were.second
+servers_numbers_were (a ∷ b ∷ c ∷ rest) p e = cc
+
+pub servers_was : (words : List Text) (told : ToldServers) → servers_line words ≡ Ok told → IsServersLine words told
+servers_was [] told e = cc
+servers_was (word ∷ fields) told e =
+    let named = if_was (bytes_eq word (codes "servers")) (servers_fields fields) Word told e in
+    let step = and_then_was (servers_numbers fields) servers_within told named.1 in
+    let p = step.0 in
+    let made : ToldServers = record { servers = p.0; keeps = p.1 } in
+    let tested = if_was (is_within 1 8 p.0 && is_within 1 64 p.1) (Ok made) Range told step.2 in
+    let same : made ≡ told = cc (tested.1) in
+    let parts = and_parts (is_within 1 8 p.0) (is_within 1 64 p.1) tested.0 in
+    subst (IsServersLine (word ∷ fields)) same (record {
+      are = ap plain (words_are word (codes "servers") fields fields named.0 refl) ∙ servers_numbers_were fields p step.1;
+      servers = is_within-true 1 8 p.0 parts.0;
+      keeps = is_within-true 1 64 p.1 parts.1;
+    })
 
 -- between programs
 
 abbrev pub IsListingLine : Workload → List Text → ListingLine → Type 0
 IsListingLine script words (Client server) = (words ≡ codes "client" ∷ decimal server ∷ []) × IsWithin 1 script.servers server × (client_count script.clients server < 16)
-IsListingLine script words Begin = (words ≡ codes "begin" ∷ []) × (0 < length script.clients) × (last_program_count script.clients < 10000)
+IsListingLine script words (Begin mode) =
+    (words ≡ begin_words mode) × (0 < length script.clients) × (last_program_count script.clients < 10000) × (is_told script.shape.version mode.isolation ≡ true) × IsMode script.shape mode
 IsListingLine script words Schedule = words ≡ codes "schedule" ∷ []
 
 client_was : (script : Workload) (word : Text) (fields : List Text) (read : ListingLine) → bytes_eq word (codes "client") ≡ true → client_fields script fields ≡ Ok read → IsListingLine script (word ∷ fields) read
@@ -77,13 +178,42 @@ client_was script word fields read named e =
     let was = number_within_was 1 script.servers fields step.0 step.1 in
     subst (IsListingLine script (word ∷ fields)) same (words_are word (codes "client") fields _ named was.0, was.1, ltb-true (client_count script.clients step.0) 16 tested.0)
 
+-- the fields are those of what is asked for, and that may be asked for
+abbrev AreModeFields : Shape → List Text → Mode → Type 0
+AreModeFields shape fields mode = (fields ≡ asked_fields mode.isolation mode.as_of) × IsMode shape mode
+
+position_was : (shape : Shape) (a b : Text) (mode : Mode) → bytes_eq a (codes "at") ≡ true → position_field shape (b ∷ []) ≡ Ok mode → AreModeFields shape (a ∷ b ∷ []) mode
+position_was shape a b mode named e =
+    let step = and_then_was (one_number (b ∷ [])) (λ pos. if is_position shape pos then Ok (mode_at pos) else Err Range) mode e in
+    let pos = step.0 in
+    let tested = if_was (is_position shape pos) (Ok (mode_at pos)) Range mode step.2 in
+    let same : mode_at pos ≡ mode = cc (tested.1) in
+    let parts = and_parts (pos % shape.group == 0) (nat_le pos shape.cap) tested.0 in
+    let was = one_was (b ∷ []) pos step.1 in
+    subst (AreModeFields shape (a ∷ b ∷ [])) same (words_are a (codes "at") (b ∷ []) _ named was.0, ((eqb-true (pos % shape.group) 0 parts.0, leb-true pos shape.cap parts.1), λ asks. refl))
+
+mode_was : (shape : Shape) (fields : List Text) (mode : Mode) → mode_fields shape fields ≡ Ok mode → AreModeFields shape fields mode
+mode_was shape [] mode e =
+    let same : plain_mode Serializable ≡ mode = cc (e) in subst (AreModeFields shape []) same (refl, (tt, λ asks. refl))
+mode_was shape (a ∷ []) mode e =
+    let was = if_was (bytes_eq a (codes "snapshot")) (Ok (plain_mode Snapshot)) Form mode e in
+    let same : plain_mode Snapshot ≡ mode = cc (was.1) in
+    subst (AreModeFields shape (a ∷ [])) same (ap (λ w. w ∷ []) ((bytes_eq-Decides a (codes "snapshot")).0 was.0), (tt, λ asks. cc))
+mode_was shape (a ∷ b ∷ []) mode e =
+    let was = if_was (bytes_eq a (codes "at")) (position_field shape (b ∷ [])) Form mode e in position_was shape a b mode was.0 was.1
+mode_was shape (a ∷ b ∷ c ∷ rest) mode e = cc
+
 begin_was : (script : Workload) (word : Text) (fields : List Text) (read : ListingLine) → bytes_eq word (codes "begin") ≡ true → 0 < length script.clients → begin_fields script fields ≡ Ok read
     → IsListingLine script (word ∷ fields) read
 begin_was script word fields read named some e =
-    let step = and_then_was (no_fields fields) (λ u. if nat_lt (last_program_count script.clients) 10000 then Ok Begin else Err Count) read e in
-    let tested = if_was (nat_lt (last_program_count script.clients) 10000) (Ok Begin) Count read step.2 in
-    let same : Begin ≡ read = cc (tested.1) in
-    subst (IsListingLine script (word ∷ fields)) same (words_are word (codes "begin") fields _ named (none_was fields step.0 step.1), some, ltb-true (last_program_count script.clients) 10000 tested.0)
+    let step = and_then_was (mode_fields script.shape fields) (one_more_program script.shape.version (last_program_count script.clients)) read e in
+    let mode = step.0 in
+    let tested = if_was (nat_lt (last_program_count script.clients) 10000) (if is_told script.shape.version mode.isolation then Ok (Begin mode) else Err Version) Count read step.2 in
+    let told = if_was (is_told script.shape.version mode.isolation) (Ok (Begin mode)) Version read tested.1 in
+    let same : Begin mode ≡ read = cc (told.1) in
+    let was = mode_was script.shape fields mode step.1 in
+    subst (IsListingLine script (word ∷ fields)) same
+    (words_are word (codes "begin") fields _ named was.0, some, ltb-true (last_program_count script.clients) 10000 tested.0, told.0, was.1)
 
 schedule_was : (script : Workload) (word : Text) (fields : List Text) (read : ListingLine) → bytes_eq word (codes "schedule") ≡ true → and_then (no_fields fields) (λ u. Ok Schedule) ≡ Ok read
     → IsListingLine script (word ∷ fields) read
@@ -104,50 +234,33 @@ listing_was sim script (word ∷ fields) read e =
 
 -- in a program
 
-pub record IsNextLine (count : ℕ) (words : List Text) (command : Command) : Type 0 where
+-- a command that may stand there, since it reads or the program may write
+pub record IsNextLine (reads : Bool) (count : ℕ) (words : List Text) (command : Command) : Type 0 where
   pub are : words ≡ command_words command
   pub fits : FitsFields command
   pub lawful : IsCommand command
+  pub may : reads ≡ true → IsReading command
   pub room : count < 64
 
-abbrev pub IsProgramLine : ℕ → List Text → ProgramLine → Type 0
-IsProgramLine count words (Next command) = IsNextLine count words command
-IsProgramLine count words End = words ≡ codes "end" ∷ []
+abbrev pub IsProgramLine : Bool → ℕ → List Text → ProgramLine → Type 0
+IsProgramLine reads count words (Next command) = IsNextLine reads count words command
+IsProgramLine reads count words End = words ≡ codes "end" ∷ []
 
-next_was : (count : ℕ) (words : List Text) (command : Command) (read : ProgramLine) → one_more count command ≡ Ok read → words ≡ command_words command → FitsFields command → IsCommand command
-    → IsProgramLine count words read
-next_was count words command read e same fits lawful =
+next_was : (reads : Bool) (count : ℕ) (words : List Text) (command : Command) (read : ProgramLine) → one_more count command ≡ Ok read → words ≡ command_words command → FitsFields command → IsCommand command
+    → (reads ≡ true → IsReading command) → IsProgramLine reads count words read
+next_was reads count words command read e same fits lawful may =
     let tested = if_was (nat_lt count 64) (Ok (Next command)) Count read e in
     let is : Next command ≡ read = cc (tested.1) in
-    subst (IsProgramLine count words) is (record { are = same; fits = fits; lawful = lawful; room = ltb-true count 64 tested.0 })
+    subst (IsProgramLine reads count words) is (record { are = same; fits = fits; lawful = lawful; may = may; room = ltb-true count 64 tested.0 })
 
-module _ (count : ℕ) (word : Text) (fields : List Text) (read : ProgramLine) where
-  get_was : bytes_eq word (codes "get") ≡ true → and_then (one_number fields) (λ key. one_more count (Get key)) ≡ Ok read → IsProgramLine count (word ∷ fields) read
+module _ (reads : Bool) (count : ℕ) (word : Text) (fields : List Text) (read : ProgramLine) where
+  get_was : bytes_eq word (codes "get") ≡ true → and_then (one_number fields) (λ key. one_more count (Get key)) ≡ Ok read → IsProgramLine reads count (word ∷ fields) read
   get_was named e =
       let step = and_then_was (one_number fields) (λ key. one_more count (Get key)) read e in
       let was = one_was fields step.0 step.1 in
-      next_was count (word ∷ fields) (Get step.0) read step.2 (words_are word (codes "get") fields _ named was.0) was.1 tt
+      next_was reads count (word ∷ fields) (Get step.0) read step.2 (words_are word (codes "get") fields _ named was.0) was.1 tt (λ asks. tt)
 
-  del_was : bytes_eq word (codes "del") ≡ true → and_then (one_number fields) (λ key. one_more count (Del key)) ≡ Ok read → IsProgramLine count (word ∷ fields) read
-  del_was named e =
-      let step = and_then_was (one_number fields) (λ key. one_more count (Del key)) read e in
-      let was = one_was fields step.0 step.1 in
-      next_was count (word ∷ fields) (Del step.0) read step.2 (words_are word (codes "del") fields _ named was.0) was.1 tt
-
-  add_was : bytes_eq word (codes "add") ≡ true → and_then (two_numbers fields) (λ p. one_more count (Add p.0 p.1)) ≡ Ok read → IsProgramLine count (word ∷ fields) read
-  add_was named e =
-      let step = and_then_was (two_numbers fields) (λ p. one_more count (Add p.0 p.1)) read e in
-      let was = two_was fields step.0 step.1 in
-      next_was count (word ∷ fields) (Add step.0.0 step.0.1) read step.2 (words_are word (codes "add") fields _ named was.words) (was.first, was.second) tt
-
-  put_was : bytes_eq word (codes "put") ≡ true → put_fields count fields ≡ Ok read → IsProgramLine count (word ∷ fields) read
-  put_was named e =
-      let step = and_then_was (number_and_text fields) (λ p. if is_value p.1 then one_more count (Put p.0 p.1) else Err Value) read e in
-      let was = text_was fields step.0 step.1 in
-      let tested = if_was (is_value step.0.1) (one_more count (Put step.0.0 step.0.1)) Value read step.2 in
-      next_was count (word ∷ fields) (Put step.0.0 step.0.1) read tested.1 (words_are word (codes "put") fields _ named was.0) was.1 tested.0
-
-  scan_was : bytes_eq word (codes "scan") ≡ true → and_then (scan_fields fields) (one_more count) ≡ Ok read → IsProgramLine count (word ∷ fields) read
+  scan_was : bytes_eq word (codes "scan") ≡ true → and_then (scan_fields fields) (one_more count) ≡ Ok read → IsProgramLine reads count (word ∷ fields) read
   scan_was named e =
       let step = and_then_was (scan_fields fields) (one_more count) read e in
       let scan = and_then_was (three_numbers fields) (λ p. if is_within 1 1000 p.2 then (if nat_le p.0 p.1 then Ok (Scan p.0 p.1 p.2) else Err Order) else Err Range) step.0 step.1 in
@@ -156,24 +269,51 @@ module _ (count : ℕ) (word : Text) (fields : List Text) (read : ProgramLine) w
       let ranged = if_was (is_within 1 1000 p.2) (if nat_le p.0 p.1 then Ok (Scan p.0 p.1 p.2) else Err Order) Range step.0 scan.2 in
       let ordered = if_was (nat_le p.0 p.1) (Ok (Scan p.0 p.1 p.2)) Order step.0 ranged.1 in
       let is : step.0 ≡ Scan p.0 p.1 p.2 = cc (ordered.1) in
-      next_was count (word ∷ fields) (Scan p.0 p.1 p.2) read (ap (one_more count) (sym is) ∙ step.2) (words_are word (codes "scan") fields _ named was.words) was.second
-      (leb-true p.0 p.1 ordered.0, is_within-true 1 1000 p.2 ranged.0)
+      next_was reads count (word ∷ fields) (Scan p.0 p.1 p.2) read (ap (one_more count) (sym is) ∙ step.2) (words_are word (codes "scan") fields _ named was.words) was.second
+      (leb-true p.0 p.1 ordered.0, is_within-true 1 1000 p.2 ranged.0) (λ asks. tt)
 
-  end_was : bytes_eq word (codes "end") ≡ true → and_then (no_fields fields) (λ u. Ok End) ≡ Ok read → IsProgramLine count (word ∷ fields) read
+  end_was : bytes_eq word (codes "end") ≡ true → and_then (no_fields fields) (λ u. Ok End) ≡ Ok read → IsProgramLine reads count (word ∷ fields) read
   end_was named e =
       let step = and_then_was (no_fields fields) (λ u. Ok End) read e in
       let same : End ≡ read = cc (step.2) in
-      subst (IsProgramLine count (word ∷ fields)) same (words_are word (codes "end") fields _ named (none_was fields step.0 step.1))
+      subst (IsProgramLine reads count (word ∷ fields)) same (words_are word (codes "end") fields _ named (none_was fields step.0 step.1))
 
-  program_by : program_line count (word ∷ fields) ≡ Ok read → IsProgramLine count (word ∷ fields) read
+  -- a command that writes stands only where the program doesn't only read
+  writes : {A : Type 0} → reads ≡ false → reads ≡ true → A
+  writes plainly asks = absurd (cc (plainly, asks))
+
+  del_was : reads ≡ false → bytes_eq word (codes "del") ≡ true → and_then (one_number fields) (λ key. one_more count (Del key)) ≡ Ok read → IsProgramLine reads count (word ∷ fields) read
+  del_was may named e =
+      let step = and_then_was (one_number fields) (λ key. one_more count (Del key)) read e in
+      let was = one_was fields step.0 step.1 in
+      next_was reads count (word ∷ fields) (Del step.0) read step.2 (words_are word (codes "del") fields _ named was.0) was.1 tt (writes may)
+
+  add_was : reads ≡ false → bytes_eq word (codes "add") ≡ true → and_then (two_numbers fields) (λ p. one_more count (Add p.0 p.1)) ≡ Ok read → IsProgramLine reads count (word ∷ fields) read
+  add_was may named e =
+      let step = and_then_was (two_numbers fields) (λ p. one_more count (Add p.0 p.1)) read e in
+      let was = two_was fields step.0 step.1 in
+      next_was reads count (word ∷ fields) (Add step.0.0 step.0.1) read step.2 (words_are word (codes "add") fields _ named was.words) (was.first, was.second) tt (writes may)
+
+  put_was : reads ≡ false → bytes_eq word (codes "put") ≡ true → put_fields count fields ≡ Ok read → IsProgramLine reads count (word ∷ fields) read
+  put_was may named e =
+      let step = and_then_was (number_and_text fields) (λ p. if is_value p.1 then one_more count (Put p.0 p.1) else Err Value) read e in
+      let was = text_was fields step.0 step.1 in
+      let tested = if_was (is_value step.0.1) (one_more count (Put step.0.0 step.0.1)) Value read step.2 in
+      next_was reads count (word ∷ fields) (Put step.0.0 step.0.1) read tested.1 (words_are word (codes "put") fields _ named was.0) was.1 tested.0 (writes may)
+
+  writing_by : reads ≡ false → writing_line count word fields ≡ Ok read → IsProgramLine reads count (word ∷ fields) read
+  writing_by may e =
+      branch (bytes_eq word (codes "put")) _ _ read e (put_was may)
+      (λ a f. branch (bytes_eq word (codes "del")) _ _ read f (del_was may)
+      (λ b g. let last = if_was (bytes_eq word (codes "add")) (and_then (two_numbers fields) (λ p. one_more count (Add p.0 p.1))) Word read g in add_was may last.0 last.1))
+
+  program_by : program_line reads count (word ∷ fields) ≡ Ok read → IsProgramLine reads count (word ∷ fields) read
   program_by e =
       branch (bytes_eq word (codes "get")) _ _ read e get_was
-      (λ a f. branch (bytes_eq word (codes "put")) _ _ read f put_was
-      (λ b g. branch (bytes_eq word (codes "del")) _ _ read g del_was
-      (λ c h. branch (bytes_eq word (codes "add")) _ _ read h add_was
-      (λ d i. branch (bytes_eq word (codes "scan")) _ _ read i scan_was
-      (λ k l. let last = if_was (bytes_eq word (codes "end")) (and_then (no_fields fields) (λ u. Ok End)) Word read l in end_was last.0 last.1)))))
+      (λ a f. branch (bytes_eq word (codes "scan")) _ _ read f scan_was
+      (λ b g. branch (bytes_eq word (codes "end")) _ _ read g end_was
+      (λ c h. let last = else_was reads (writing_line count word fields) Word read h in writing_by last.0 last.1)))
 
-pub program_was : (count : ℕ) (words : List Text) (read : ProgramLine) → program_line count words ≡ Ok read → IsProgramLine count words read
-program_was count [] read e = cc
-program_was count (word ∷ fields) read e = program_by count word fields read e
+pub program_was : (reads : Bool) (count : ℕ) (words : List Text) (read : ProgramLine) → program_line reads count words ≡ Ok read → IsProgramLine reads count words read
+program_was reads count [] read e = cc
+program_was reads count (word ∷ fields) read e = program_by reads count word fields read e

@@ -1,34 +1,41 @@
 -- What a script spells is read as that script.
-use Rattle.std.proofs.Common.{arith, ◌≡◌, ℕ, ◌+◌, ◌<◌, ◌≤◌, ◌==◌, Bool, true, cond, List, [], ◌∷◌, ◌++◌, length, refl, sym, ap, subst, ◌∙◌, append_assoc, append-nil, length-append}
-use Rattle.std.specs.Prelude.{map, flat_map, Ok, All, codes, decimal}
-use Rattle.std.specs.List.{AllByRecursion, join_with_byte}
+use Rattle.std.proofs.Common.{arith, ◌≡◌, ℕ, ◌+◌, ◌*◌, ◌<◌, ◌≤◌, ◌^◌, ◌==◌, Bool, true, false, cond, if◌then◌else◌, List, [], ◌∷◌, ◌++◌, length, refl, sym, ap, subst, ◌∙◌, append_assoc, append-nil, length-append}
+use Rattle.std.specs.Prelude.{map, flat_map, is_some, Option, Some, None, IfSome, Ok, All, codes, decimal}
+use Rattle.std.specs.List.{AllByRecursion, join_with_byte, list_all}
+use Rattle.std.proofs.lemmas.Bool.{and_parts}
 use Rattle.std.proofs.lemmas.Bool.Decides.{nat_tests}
 use Rattle.std.proofs.lemmas.Grind.{flat_map-append}
 use Rattle.std.proofs.lemmas.List.{map-append}
 use Rattle.std.proofs.lemmas.List.Elements.{All-head, All-tail}
 use Rattle.std.proofs.lemmas.List.Sums.{sum_by-append, sum_by-cons}
 use Rattle.hy_base.specs.declared.layout.Shape.{Shape}
+use Rattle.hy_base.specs.declared.record.Isolation.{Isolation}
+use Rattle.hy_base.specs.declared.record.Isolation.TheVariants.{Serializable, Snapshot}
 use Rattle.hy_base.specs.declared.workload.Command.{Command}
 use Rattle.hy_base.specs.declared.workload.Command.TheVariants.{Get, Put, Del, Add, Scan}
 use Rattle.hy_base.specs.declared.workload.Client.{Client}
 use Rattle.hy_base.specs.declared.workload.Program.{Program}
-use Rattle.hy_base.specs.Script.{Workload, IsClient, IsCommand, IsProgram, client_count}
+use Rattle.hy_base.specs.Entry.{is_told}
+use Rattle.hy_base.specs.declared.workload.Mode.{Mode}
+use Rattle.hy_base.specs.Script.{Workload, AreTold, AskForGroups, IsAsOf, IsClient, IsCommand, IsProgram, IsReading, client_count, home_of, mode_of}
 use Rattle.hy_base.specs.Shape.{IsGoodShape, IsWithin}
 use Rattle.hy_base.specs.Spelling.{Text}
 use Rattle.hy_base.specs.Limits.{IsServerNumber}
-use Rattle.hy_script.specs.Grammar.{Place, AtStart, Shaped, Listing, Programming, change_last, gains_program, last_program_count, with_program}
+use Rattle.hy_script.specs.Grammar.{Place, AtStart, Shaped, Listing, Programming, change_last, gains_program, last_program_count, with_program, gains_command, begun}
 use Rattle.hy_script.specs.ScriptLaws.{ClientFits, FitsFields, IsScriptSpellable, ProgramFits, ReadsItsSpelling}
 use Rattle.hy_script.specs.Lines.{lines_of, numbered_lines, words_of}
-use Rattle.hy_script.specs.LineParts.{after_listing, after_program_line, leading}
+use Rattle.hy_script.specs.LineParts.{IsMode, after_listing, after_program_line, leading}
+use Rattle.hy_script.specs.declared.script.ProgramLine.TheVariants.{End}
 use Rattle.hy_script.specs.ScriptReading.{place_after, place_after_all}
 use Rattle.hy_script.specs.ScriptFields.{listing_line, program_line, servers_line, shape_line}
-use Rattle.hy_script.specs.ScriptSpelling.{client_lines, command_words, program_lines, script_lines, script_text, text_of_lines}
+use Rattle.hy_script.specs.ScriptSpelling.{asked_fields, begin_words, client_lines, command_words, horizon_fields, servers_words, spelled_shape, program_lines, script_lines, script_text, text_of_lines}
 use Rattle.hy_script.proofs.Drafts.{change_last_is, last_program_count_is, script_with, counted_at}
 use Rattle.hy_script.proofs.LinesAgain.{begin_again, client_again, command_again, servers_again, shape_again}
-use Rattle.hy_script.proofs.LinesSpelled.{IsSpeech, lines_first, numbered_first, visible_decimal, visible_value, words_spelled}
+use Rattle.hy_script.proofs.LinesSpelled.{IsSpeech, is_visible, lines_first, numbered_first, visible_decimal, visible_value, words_spelled}
 use Rattle.hy_script.proofs.ProgramLines.{listing_leads, program_leads}
 use Rattle.hy_script.proofs.ReadLemmas.{whole, then_all}
-use Rattle.hy_script.proofs.ScriptLines.{served, servers_leads, shape_leads}
+use Rattle.hy_script.proofs.ScriptLines.{listing_of, servers_leads}
+use Rattle.hy_script.proofs.ShapeLines.{shape_leads}
 
 -- lines of these words are cut as they stand, and lead from a place to another, whatever stands before and behind them
 pub record Walks (sim : Bool) (place : Place) (lines : List (List Text)) (last : Place) : Type 0 where
@@ -66,19 +73,43 @@ one_line sim place last words speech leads = record {
 
 -- what the lines of a place lead to, by their words
 
-shape_walks : (sim : Bool) (shape : Shape) → IsGoodShape shape → Walks sim AtStart ((codes "shape" ∷ decimal shape.group ∷ decimal shape.window ∷ decimal shape.cap ∷ []) ∷ []) (Shaped shape)
+visible_horizon : (horizon : Option ℕ) (low : ℕ) → IfSome horizon (IsWithin low 2147483648) → AllByRecursion (λ word. is_visible word ≡ true) (horizon_fields horizon)
+visible_horizon None low within = tt
+visible_horizon (Some h) low within = (visible_decimal h (omega (arith, within.at_most)), tt)
+
+visible_version : (t : Bool) (version : ℕ) (rest : List Text) → version < 2 ^ 64 → AllByRecursion (λ word. is_visible word ≡ true) rest
+    → AllByRecursion (λ word. is_visible word ≡ true) (if t then [] else decimal version ∷ rest)
+visible_version true version rest small visible = tt
+visible_version false version rest small visible = (visible_decimal version small, visible)
+
+shape_walks : (sim : Bool) (shape : Shape) → IsGoodShape shape → Walks sim AtStart (spelled_shape shape ∷ []) (Shaped shape)
 shape_walks sim shape good =
-    one_line sim AtStart (Shaped shape) _
+    one_line sim AtStart (Shaped shape) (spelled_shape shape)
     (record {
-      visible = (refl, (visible_decimal shape.group (omega (arith, good.group.at_most)), (visible_decimal shape.window (omega (arith, good.window.at_most)), (visible_decimal shape.cap (omega (arith, good.cap.at_most)), tt))));
+      visible = (
+        refl,
+        (
+          visible_decimal shape.group (omega (arith, good.group.at_most)),
+          (
+            visible_decimal shape.window (omega (arith, good.window.at_most)),
+            (
+              visible_decimal shape.cap (omega (arith, good.cap.at_most)),
+              visible_version (shape.version == 1) shape.version (horizon_fields shape.horizon) (omega (arith, good.version.at_most))
+                  (visible_horizon shape.horizon (shape.group * shape.window) good.horizon),
+            ),
+          ),
+        ),
+      );
       says_some = refl;
     })
     (λ number line e. sym (shape_leads sim number (words_of line)) ∙ ap (leading Shaped) (ap shape_line e ∙ shape_again shape good))
 
-servers_walk : (sim : Bool) (shape : Shape) (n : ℕ) → IsServerNumber n → Walks sim (Shaped shape) ((codes "servers" ∷ decimal n ∷ []) ∷ []) (served shape n)
-servers_walk sim shape n within =
-    one_line sim (Shaped shape) (served shape n) _ (record { visible = (refl, (visible_decimal n (omega (arith, within.at_most)), tt)); says_some = refl })
-    (λ number line e. sym (servers_leads sim shape number (words_of line)) ∙ ap (leading (served shape)) (ap servers_line e ∙ servers_again n within))
+servers_walk : (sim : Bool) (shape : Shape) (servers keeps : ℕ) → IsServerNumber servers → IsWithin 1 64 keeps
+    → Walks sim (Shaped shape) (servers_words servers keeps ∷ []) (listing_of shape (record { servers = servers; keeps = keeps }))
+servers_walk sim shape servers keeps within kept =
+    one_line sim (Shaped shape) (listing_of shape (record { servers = servers; keeps = keeps })) _
+    (record { visible = (refl, (visible_decimal servers (omega (arith, within.at_most)), visible_version (keeps == 1) keeps [] (omega (arith, kept.at_most)) tt)); says_some = refl })
+    (λ number line e. sym (servers_leads sim shape number (words_of line)) ∙ ap (leading (listing_of shape)) (ap servers_line e ∙ servers_again servers keeps within kept))
 
 abbrev without_programs : ℕ → Client
 without_programs server = record { server = server; programs = [] }
@@ -91,15 +122,24 @@ client_walks sim script front server few within room =
     (λ number line e. sym (listing_leads sim number (script_with script front) (words_of line))
     ∙ ap (leading (after_listing (script_with script front) number)) (ap (listing_line sim (script_with script front)) e ∙ client_again sim (script_with script front) server few within room))
 
-begin_walks : (sim : Bool) (script : Workload) → 0 < length script.clients → last_program_count script.clients < 10000 → Walks sim (Listing script) ((codes "begin" ∷ []) ∷ []) (Programming script [])
-begin_walks sim script some room =
-    one_line sim (Listing script) (Programming script []) _ (record { visible = (refl, tt); says_some = refl })
-    (λ number line e. sym (listing_leads sim number script (words_of line)) ∙ ap (leading (after_listing script number)) (ap (listing_line sim script) e ∙ begin_again sim script some room))
+visible_asked : (shape : Shape) → IsGoodShape shape → (isolation : Isolation) (as_of : Option ℕ) → IsAsOf shape as_of → AllByRecursion (λ word. is_visible word ≡ true) (asked_fields isolation as_of)
+visible_asked shape good Serializable None asks = tt
+visible_asked shape good Snapshot None asks = (refl, tt)
+visible_asked shape good isolation (Some pos) asks = (refl, (visible_decimal pos (omega (arith, asks.1, good.cap.at_most)), tt))
 
-end_walks : (sim : Bool) (script : Workload) (commands : List Command) → Walks sim (Programming script commands) ((codes "end" ∷ []) ∷ []) (Listing (with_program commands script))
-end_walks sim script commands =
-    one_line sim (Programming script commands) (Listing (with_program commands script)) _ (record { visible = (refl, tt); says_some = refl })
-    (λ number line e. sym (program_leads sim number script commands (words_of line)) ∙ ap (leading (after_program_line script commands)) (ap (program_line (length commands)) e))
+begin_walks : (sim : Bool) (script : Workload) (mode : Mode) → IsGoodShape script.shape → 0 < length script.clients → last_program_count script.clients < 10000 → is_told script.shape.version mode.isolation ≡ true → IsMode script.shape mode
+    → Walks sim (Listing script) (begin_words mode ∷ []) (Programming script (begun mode))
+begin_walks sim script mode good some room told asks =
+    one_line sim (Listing script) (Programming script (begun mode)) _ (record { visible = (refl, visible_asked script.shape good mode.isolation mode.as_of asks.0); says_some = refl })
+    (λ number line e. sym (listing_leads sim number script (words_of line)) ∙ ap (leading (after_listing script number)) (ap (listing_line sim script) e ∙ begin_again sim script mode good some room told asks))
+
+end_again : (reads : Bool) (count : ℕ) → program_line reads count (codes "end" ∷ []) ≡ Ok End
+end_again reads count = refl
+
+end_walks : (sim : Bool) (script : Workload) (program : Program) → Walks sim (Programming script program) ((codes "end" ∷ []) ∷ []) (Listing (with_program program script))
+end_walks sim script program =
+    one_line sim (Programming script program) (Listing (with_program program script)) _ (record { visible = (refl, tt); says_some = refl })
+    (λ number line e. sym (program_leads sim number script program (words_of line)) ∙ ap (leading (after_program_line script program)) (ap (program_line (is_some program.as_of) (length program.commands)) e ∙ end_again (is_some program.as_of) (length program.commands)))
 
 -- commands, programs and clients
 
@@ -113,66 +153,75 @@ command_speech (Scan lo hi n) fits lawful = record {
   says_some = refl;
 }
 
-command_walks : (sim : Bool) (script : Workload) (commands : List Command) (command : Command) → FitsFields command → IsCommand command → length commands < 64
-    → Walks sim (Programming script commands) (command_words command ∷ []) (Programming script (commands ++ command ∷ []))
-command_walks sim script commands command fits lawful room =
-    one_line sim (Programming script commands) (Programming script (commands ++ command ∷ [])) (command_words command) (command_speech command fits lawful)
-    (λ number line e. sym (program_leads sim number script commands (words_of line))
-    ∙ ap (leading (after_program_line script commands)) (ap (program_line (length commands)) e ∙ command_again (length commands) command fits lawful room))
+command_walks : (sim : Bool) (script : Workload) (program : Program) (command : Command) → FitsFields command → IsCommand command → (is_some program.as_of ≡ true → IsReading command) → length program.commands < 64
+    → Walks sim (Programming script program) (command_words command ∷ []) (Programming script (gains_command command program))
+command_walks sim script program command fits lawful may room =
+    one_line sim (Programming script program) (Programming script (gains_command command program)) (command_words command) (command_speech command fits lawful)
+    (λ number line e. sym (program_leads sim number script program (words_of line))
+    ∙ ap (leading (after_program_line script program)) (ap (program_line (is_some program.as_of) (length program.commands)) e ∙ command_again (is_some program.as_of) (length program.commands) command fits lawful may room))
 
-commands_walk : (sim : Bool) (script : Workload) (before commands : List Command) → AllByRecursion FitsFields commands → All IsCommand commands → length before + length commands ≤ 64
-    → Walks sim (Programming script before) (map command_words commands) (Programming script (before ++ commands))
-commands_walk sim script before [] fits lawful few = subst (λ l. Walks sim (Programming script before) [] (Programming script l)) (sym (append-nil before)) (stays sim (Programming script before))
-commands_walk sim script before (command ∷ commands) fits lawful few =
+-- a program that asks for this, with these commands
+abbrev with_commands : Mode → List Command → Program
+with_commands mode commands = record { isolation = mode.isolation; as_of = mode.as_of; commands = commands }
+
+commands_walk : (sim : Bool) (script : Workload) (mode : Mode) (before commands : List Command) → AllByRecursion FitsFields commands → All IsCommand commands → (is_some mode.as_of ≡ true → All IsReading commands)
+    → length before + length commands ≤ 64
+    → Walks sim (Programming script (with_commands mode before)) (map command_words commands) (Programming script (with_commands mode (before ++ commands)))
+commands_walk sim script mode before [] fits lawful may few = subst (λ l. Walks sim (Programming script (with_commands mode before)) [] (Programming script (with_commands mode l))) (sym (append-nil before)) (stays sim (Programming script (with_commands mode before)))
+commands_walk sim script mode before (command ∷ commands) fits lawful may few =
     let more : length (before ++ command ∷ []) + length commands ≤ 64 = omega (arith, few, length-append before (command ∷ [])) in
     let room : length before < 64 = omega (arith, few) in
-    subst (λ l. Walks sim (Programming script before) (map command_words (command ∷ commands)) (Programming script l)) (append_assoc before (command ∷ []) commands)
-    (then_walks sim (Programming script before) (Programming script (before ++ command ∷ [])) (Programming script ((before ++ command ∷ []) ++ commands)) (command_words command ∷ []) (map command_words commands)
-    (command_walks sim script before command fits.0 (All-head IsCommand command commands lawful) room)
-    (commands_walk sim script (before ++ command ∷ []) commands fits.1 (All-tail IsCommand command commands lawful) more))
+    subst (λ l. Walks sim (Programming script (with_commands mode before)) (map command_words (command ∷ commands)) (Programming script (with_commands mode l))) (append_assoc before (command ∷ []) commands)
+    (then_walks sim (Programming script (with_commands mode before)) (Programming script (with_commands mode (before ++ command ∷ []))) (Programming script (with_commands mode ((before ++ command ∷ []) ++ commands))) (command_words command ∷ []) (map command_words commands)
+    (command_walks sim script (with_commands mode before) command fits.0 (All-head IsCommand command commands lawful) (λ asks. All-head IsReading command commands (may asks)) room)
+    (commands_walk sim script mode (before ++ command ∷ []) commands fits.1 (All-tail IsCommand command commands lawful) (λ asks. All-tail IsReading command commands (may asks)) more))
 
-program_walks : (sim : Bool) (script : Workload) (program : Program) → ProgramFits program → IsProgram program → 0 < length script.clients → last_program_count script.clients < 10000
-    → Walks sim (Listing script) (program_lines program) (Listing (with_program program.commands script))
-program_walks sim script program fits lawful some room =
+program_walks : (sim : Bool) (script : Workload) (program : Program) → IsGoodShape script.shape → ProgramFits program → IsProgram program → 0 < length script.clients → last_program_count script.clients < 10000
+    → is_told script.shape.version program.isolation ≡ true → IsAsOf script.shape program.as_of
+    → Walks sim (Listing script) (program_lines program) (Listing (with_program program script))
+program_walks sim script program good fits lawful some room told asks =
     let commands = program.commands in
-    then_walks sim (Listing script) (Programming script []) (Listing (with_program commands script)) ((codes "begin" ∷ []) ∷ []) (map command_words commands ++ (codes "end" ∷ []) ∷ [])
-    (begin_walks sim script some room)
-    (then_walks sim (Programming script []) (Programming script commands) (Listing (with_program commands script)) (map command_words commands) ((codes "end" ∷ []) ∷ [])
-    (commands_walk sim script [] commands fits lawful.commands (omega (arith, lawful.count))) (end_walks sim script commands))
+    let mode = mode_of program in
+    then_walks sim (Listing script) (Programming script (begun mode)) (Listing (with_program program script)) (begin_words mode ∷ []) (map command_words commands ++ (codes "end" ∷ []) ∷ [])
+    (begin_walks sim script mode good some room told (asks, lawful.plain))
+    (then_walks sim (Programming script (begun mode)) (Programming script program) (Listing (with_program program script)) (map command_words commands) ((codes "end" ∷ []) ∷ [])
+    (commands_walk sim script mode [] commands fits lawful.commands lawful.reads (omega (arith, lawful.count))) (end_walks sim script program))
 
 abbrev with_programs : Client → List Program → Client
 with_programs c programs = record { server = c.server; programs = programs }
 
-programs_walk : (sim : Bool) (script : Workload) (front : List Client) (server : ℕ) (before programs : List Program) → AllByRecursion ProgramFits programs → All IsProgram programs
-    → length before + length programs ≤ 10000
+programs_walk : (sim : Bool) (script : Workload) (front : List Client) (server : ℕ) (before programs : List Program) → IsGoodShape script.shape → AllByRecursion ProgramFits programs → All IsProgram programs → AreTold script.shape.version (map mode_of programs)
+    → AllByRecursion (λ m. IsAsOf script.shape m.as_of) (map mode_of programs) → length before + length programs ≤ 10000
     → Walks sim (Listing (script_with script (front ++ record { server = server; programs = before } ∷ []))) (flat_map program_lines programs)
     (Listing (script_with script (front ++ record { server = server; programs = before ++ programs } ∷ [])))
-programs_walk sim script front server before [] fits lawful few =
+programs_walk sim script front server before [] good fits lawful told asks few =
     let place = Listing (script_with script (front ++ record { server = server; programs = before } ∷ [])) in
     subst (λ l. Walks sim place [] (Listing (script_with script (front ++ record { server = server; programs = l } ∷ [])))) (sym (append-nil before)) (stays sim place)
-programs_walk sim script front server before (program ∷ programs) fits lawful few =
+programs_walk sim script front server before (program ∷ programs) good fits lawful told asks few =
+    let parts = and_parts (is_told script.shape.version program.isolation) (list_all (λ m. is_told script.shape.version m.isolation) (map mode_of programs)) told in
     let client : Client = record { server = server; programs = before } in
     let now = script_with script (front ++ client ∷ []) in
     let next = front ++ record { server = server; programs = before ++ program ∷ [] } ∷ [] in
     let more : length (before ++ program ∷ []) + length programs ≤ 10000 = omega (arith, few, length-append before (program ∷ [])) in
     let some : 0 < length (front ++ client ∷ []) = omega (arith, length-append front (client ∷ [])) in
     let room : last_program_count (front ++ client ∷ []) < 10000 = omega (arith, few, last_program_count_is front client) in
-    let changed : change_last (gains_program program.commands) (front ++ client ∷ []) ≡ next = change_last_is (gains_program program.commands) front client in
+    let changed : change_last (gains_program program) (front ++ client ∷ []) ≡ next = change_last_is (gains_program program) front client in
     let last = Listing (script_with script (front ++ record { server = server; programs = before ++ program ∷ programs } ∷ [])) in
     then_walks sim (Listing now) (Listing (script_with script next)) last (program_lines program) (flat_map program_lines programs)
     (subst (λ l. Walks sim (Listing now) (program_lines program) (Listing (script_with script l))) changed
-    (program_walks sim now program fits.0 (All-head IsProgram program programs lawful) some room))
+    (program_walks sim now program good fits.0 (All-head IsProgram program programs lawful) some room parts.0 asks.0))
     (subst (λ l. Walks sim (Listing (script_with script next)) (flat_map program_lines programs) (Listing (script_with script (front ++ record { server = server; programs = l } ∷ []))))
     (append_assoc before (program ∷ []) programs)
-    (programs_walk sim script front server (before ++ program ∷ []) programs fits.1 (All-tail IsProgram program programs lawful) more))
+    (programs_walk sim script front server (before ++ program ∷ []) programs good fits.1 (All-tail IsProgram program programs lawful) parts.1 asks.1 more))
 
-whole_client : (sim : Bool) (script : Workload) (front : List Client) (c : Client) → ClientFits c → IsClient script.servers c → script.servers ≤ 8 → client_count front c.server < 16
+whole_client : (sim : Bool) (script : Workload) (front : List Client) (c : Client) → IsGoodShape script.shape → ClientFits c → IsClient script.servers c → AreTold script.shape.version (home_of c).programs
+    → AllByRecursion (λ m. IsAsOf script.shape m.as_of) (home_of c).programs → script.servers ≤ 8 → client_count front c.server < 16
     → Walks sim (Listing (script_with script front)) (client_lines c) (Listing (script_with script (front ++ c ∷ [])))
-whole_client sim script front c fits lawful few room =
+whole_client sim script front c good fits lawful told asks few room =
     then_walks sim (Listing (script_with script front)) (Listing (script_with script (front ++ without_programs c.server ∷ []))) (Listing (script_with script (front ++ c ∷ [])))
     ((codes "client" ∷ decimal c.server ∷ []) ∷ []) (flat_map program_lines c.programs)
     (client_walks sim script front c.server few lawful.server room)
-    (programs_walk sim script front c.server [] c.programs fits lawful.programs (omega (arith, lawful.count)))
+    (programs_walk sim script front c.server [] c.programs good fits lawful.programs told asks (omega (arith, lawful.count)))
 
 itself : (c : Client) → counted_at c.server c ≡ 1
 itself c = let same : (c.server == c.server) ≡ true = grind (arith, nat_tests) in ap (λ t. cond t 1 0) same
@@ -183,27 +232,29 @@ has_room front cs c few =
     let first : client_count (c ∷ cs) c.server ≡ counted_at c.server c + client_count cs c.server = sum_by-cons (counted_at c.server) c cs in
     omega (arith, few, all, first, itself c)
 
-clients_walk : (sim : Bool) (script : Workload) (front cs : List Client) → AllByRecursion ClientFits cs → All (IsClient script.servers) cs → script.servers ≤ 8 → ((k : ℕ) → client_count (front ++ cs) k ≤ 16)
+clients_walk : (sim : Bool) (script : Workload) (front cs : List Client) → IsGoodShape script.shape → AllByRecursion ClientFits cs → All (IsClient script.servers) cs → All (λ c. AreTold script.shape.version (home_of c).programs) cs
+    → AskForGroups script.shape (map home_of cs) → script.servers ≤ 8 → ((k : ℕ) → client_count (front ++ cs) k ≤ 16)
     → Walks sim (Listing (script_with script front)) (flat_map client_lines cs) (Listing (script_with script (front ++ cs)))
-clients_walk sim script front [] fits lawful few counts =
+clients_walk sim script front [] good fits lawful told asks few counts =
     let place = Listing (script_with script front) in
     subst (λ l. Walks sim place [] (Listing (script_with script l))) (sym (append-nil front)) (stays sim place)
-clients_walk sim script front (c ∷ cs) fits lawful few counts =
+clients_walk sim script front (c ∷ cs) good fits lawful told asks few counts =
     let all = append_assoc front (c ∷ []) cs in
+    let Told : Client → Type 0 = λ d. AreTold script.shape.version (home_of d).programs in
     then_walks sim (Listing (script_with script front)) (Listing (script_with script (front ++ c ∷ []))) (Listing (script_with script (front ++ c ∷ cs))) (client_lines c) (flat_map client_lines cs)
-    (whole_client sim script front c fits.0 (All-head (IsClient script.servers) c cs lawful) few (has_room front cs c (counts c.server)))
+    (whole_client sim script front c good fits.0 (All-head (IsClient script.servers) c cs lawful) (All-head Told c cs told) asks.0 few (has_room front cs c (counts c.server)))
     (subst (λ l. Walks sim (Listing (script_with script (front ++ c ∷ []))) (flat_map client_lines cs) (Listing (script_with script l))) all
-    (clients_walk sim script (front ++ c ∷ []) cs fits.1 (All-tail (IsClient script.servers) c cs lawful) few (λ k. subst (λ l. client_count l k ≤ 16) (sym all) (counts k))))
+    (clients_walk sim script (front ++ c ∷ []) cs good fits.1 (All-tail (IsClient script.servers) c cs lawful) (All-tail Told c cs told) asks.1 few (λ k. subst (λ l. client_count l k ≤ 16) (sym all) (counts k))))
 
 pub script_walks : (sim : Bool) (script : Workload) → IsScriptSpellable script → Walks sim AtStart (script_lines script) (Listing script)
 script_walks sim script s =
     let shape = script.shape in
-    then_walks sim AtStart (Shaped shape) (Listing script) ((codes "shape" ∷ decimal shape.group ∷ decimal shape.window ∷ decimal shape.cap ∷ []) ∷ [])
-    ((codes "servers" ∷ decimal script.servers ∷ []) ∷ flat_map client_lines script.clients)
+    then_walks sim AtStart (Shaped shape) (Listing script) (spelled_shape shape ∷ [])
+    (servers_words script.servers script.keeps ∷ flat_map client_lines script.clients)
     (shape_walks sim shape s.lawful.shape)
-    (then_walks sim (Shaped shape) (served shape script.servers) (Listing script) ((codes "servers" ∷ decimal script.servers ∷ []) ∷ []) (flat_map client_lines script.clients)
-    (servers_walk sim shape script.servers s.lawful.servers)
-    (clients_walk sim script [] script.clients s.clients s.lawful.clients s.lawful.servers.at_most s.lawful.client_count))
+    (then_walks sim (Shaped shape) (listing_of shape (record { servers = script.servers; keeps = script.keeps })) (Listing script) (servers_words script.servers script.keeps ∷ []) (flat_map client_lines script.clients)
+    (servers_walk sim shape script.servers script.keeps s.lawful.servers s.lawful.keeps)
+    (clients_walk sim script [] script.clients s.lawful.shape s.clients s.lawful.clients s.lawful.isolations s.lawful.positions s.lawful.servers.at_most s.lawful.client_count))
 
 pub reads_scripts : ReadsItsSpelling
 reads_scripts script sim s short =

@@ -1,18 +1,23 @@
 -- The lines of a script and of a schedule: which may stand where, and what each of them makes.
-use Rattle.std.specs.Prelude.{ℕ, ◌%◌, Bool, ◌&&◌, List, [], ◌∷◌, ◌++◌, length, nat_lt, nat_le, ◌==◌, if◌then◌else◌, Result}
+use Rattle.std.specs.Prelude.{ℕ, ◌%◌, Bool, true, ◌&&◌, ◌==◌, List, [], ◌∷◌, ◌++◌, length, nat_lt, nat_le, if◌then◌else◌, Option, Some, None, is_some, Result, is_ok}
 use Rattle.hy_base.specs.declared.layout.Shape.{Shape}
 use Rattle.hy_base.specs.declared.workload.Command.{Command}
 use Rattle.hy_base.specs.declared.workload.Command.TheVariants.{Get, Put, Del, Add, Scan}
 use Rattle.hy_base.specs.declared.workload.Client.{Client}
+use Rattle.hy_base.specs.declared.workload.Mode.{Mode}
+use Rattle.hy_base.specs.declared.workload.Program.{Program}
 use Rattle.hy_base.specs.declared.workload.Event.{Event}
 use Rattle.hy_base.specs.declared.workload.Event.TheVariants.{Begin, Append, End, Refuse, Pad, Publish, Stop}
 use Rattle.hy_base.specs.Script.{Workload, client_count}
-use Rattle.hy_base.specs.Shape.{is_within}
+use Rattle.hy_base.specs.Shape.{is_within, shape_fault}
+use Rattle.hy_base.specs.declared.record.Isolation.{Isolation}
+use Rattle.hy_base.specs.declared.record.Isolation.TheVariants.{Serializable, Snapshot}
+use Rattle.hy_base.specs.Entry.{is_told}
 use Rattle.hy_base.specs.Value.{is_value}
 use Rattle.hy_base.specs.Spelling.{Text}
-use Rattle.hy_script.specs.Forms.{Meaning, LineForm, Alone, OneNumber, TwoNumbers, ThreeNumbers, NumberAndText, read_line}
+use Rattle.hy_script.specs.Forms.{Meaning, LineForm, Alone, OneNumber, TwoNumbers, ThreeNumbers, NumberAndText, FixedWord, WordAndNumber, OtherFourth, FixedFourth, read_line}
 use Rattle.hy_script.specs.declared.why.Why.{Why}
-use Rattle.hy_script.specs.declared.why.Why.TheVariants.{Value, Range, Order, Count}
+use Rattle.hy_script.specs.declared.why.Why.TheVariants.{Value, Range, Order, Count, Version}
 
 -- Where a reading stands: what was read, by what may come next.
 pub data Place : Type 0 where
@@ -22,8 +27,8 @@ pub data Place : Type 0 where
   Shaped : Shape → Place
   -- the servers too, and any number of whole clients and programs
   Listing : Workload → Place
-  -- and a program's commands so far
-  Programming : Workload → List Command → Place
+  -- and a program with its commands so far
+  Programming : Workload → Program → Place
   -- all, and the number of the line 'schedule'
   Scheduled : Workload → ℕ → Place
 
@@ -49,68 +54,115 @@ change_last f [] = []
 change_last f (x ∷ []) = f x ∷ []
 change_last f (x ∷ y ∷ xs) = x ∷ change_last f (y ∷ xs)
 
-abbrev pub gains_program : List Command → Client → Client
-gains_program commands c = record c { programs = c.programs ++ record { commands = commands } ∷ [] }
+abbrev pub gains_program : Program → Client → Client
+gains_program program c = record c { programs = c.programs ++ program ∷ [] }
 
 -- the last client gains a program
-abbrev pub with_program : List Command → Workload → Workload
-with_program commands script = record script { clients = change_last (gains_program commands) script.clients }
+abbrev pub with_program : Program → Workload → Workload
+with_program program script = record script { clients = change_last (gains_program program) script.clients }
 
--- the ranges of a shape: whole groups of 1 to 8 up to the capacity, and windows of 1 to 64
-abbrev pub is_shape : ℕ → ℕ → ℕ → Bool
-is_shape group window cap =
-    is_within 1 8 group && (is_within 1 64 window && (is_within group 2147483648 cap && (cap % group == 0)))
+-- a program without commands
+abbrev pub begun : Mode → Program
+begun mode = record { isolation = mode.isolation; as_of = mode.as_of; commands = [] }
 
--- shape G W CAP
-abbrev pub shape_form : LineForm Place
-shape_form = ThreeNumbers "shape" (λ group window cap.
-    makes_if ((is_shape group window cap, Range) ∷ []) (Shaped (record { group = group; window = window; cap = cap })))
+-- what is asked for by a program without a position, and by one with a position
+abbrev pub plain_mode : Isolation → Mode
+plain_mode isolation = record { isolation = isolation; as_of = None }
 
--- servers S
-abbrev pub servers_form : Shape → LineForm Place
-servers_form shape = OneNumber "servers" (λ servers.
-    makes_if ((is_within 1 8 servers, Range) ∷ []) (Listing (record { shape = shape; servers = servers; clients = [] })))
+abbrev pub mode_at : ℕ → Mode
+mode_at pos = record { isolation = Serializable; as_of = Some pos }
+
+-- a position that a program may ask for is the end of a group, and one that the log may have
+abbrev pub is_position : Shape → ℕ → Bool
+is_position shape pos = (pos % shape.group == 0) && nat_le pos shape.cap
+
+abbrev pub is_as_of : Shape → Option ℕ → Bool
+is_as_of shape None = true
+is_as_of shape (Some pos) = is_position shape pos
+
+abbrev pub gains_command : Command → Program → Program
+gains_command command program = record program { commands = program.commands ++ command ∷ [] }
+
+-- the shape of these fields, each of which is in its range
+abbrev pub shaped : ℕ → ℕ → ℕ → ℕ → Option ℕ → Meaning Place
+shaped group window cap version horizon =
+    let shape : Shape = record { group = group; window = window; cap = cap; version = version; horizon = horizon } in
+    makes_if ((is_ok (shape_fault shape), Range) ∷ []) (Shaped shape)
+
+-- shape G W CAP, of version 1; shape G W CAP V, V not being 3; and shape G W CAP 3 HOR
+abbrev pub shape_forms : List (LineForm Place)
+shape_forms =
+    ThreeNumbers "shape" (λ group window cap. shaped group window cap 1 None)
+    ∷ OtherFourth "shape" "3" (λ group window cap version. shaped group window cap version None)
+    ∷ FixedFourth "shape" "3" (λ group window cap horizon. shaped group window cap 3 (Some horizon))
+    ∷ []
+
+-- so many servers, each of which keeps so many of its last boards
+abbrev pub served : Shape → ℕ → ℕ → Meaning Place
+served shape servers keeps =
+    makes_if ((is_within 1 8 servers && is_within 1 64 keeps, Range) ∷ []) (Listing (record { shape = shape; servers = servers; keeps = keeps; clients = [] }))
+
+-- servers S, with one board each; and servers S K
+abbrev pub servers_forms : Shape → List (LineForm Place)
+servers_forms shape = OneNumber "servers" (λ servers. served shape servers 1) ∷ TwoNumbers "servers" (λ servers keeps. served shape servers keeps) ∷ []
 
 -- client S
 abbrev pub client_form : Workload → LineForm Place
 client_form script = OneNumber "client" (λ server.
     makes_if ((is_within 1 script.servers server, Range) ∷ (nat_lt (client_count script.clients server) 16, Count) ∷ []) (Listing (with_client server script)))
 
--- begin
-abbrev pub begin_form : Workload → LineForm Place
-begin_form script = Alone "begin" (makes_if ((nat_lt (last_program_count script.clients) 10000, Count) ∷ []) (Programming script []))
+-- a further program of the last client
+abbrev pub begins_program : Workload → Mode → Meaning Place
+begins_program script mode =
+    makes_if ((is_as_of script.shape mode.as_of, Range) ∷ (nat_lt (last_program_count script.clients) 10000, Count) ∷ (is_told script.shape.version mode.isolation, Version) ∷ [])
+    (Programming script (begun mode))
+
+-- begin, begin snapshot, and begin at Q
+abbrev pub begin_forms : Workload → List (LineForm Place)
+begin_forms script =
+    Alone "begin" (begins_program script (plain_mode Serializable))
+    ∷ FixedWord "begin" "snapshot" (begins_program script (plain_mode Snapshot))
+    ∷ WordAndNumber "begin" "at" (λ pos. begins_program script (mode_at pos))
+    ∷ []
 
 -- end
-abbrev pub end_form : Workload → List Command → LineForm Place
-end_form script commands = Alone "end" (makes (Listing (with_program commands script)))
+abbrev pub end_form : Workload → Program → LineForm Place
+end_form script program = Alone "end" (makes (Listing (with_program program script)))
 
 -- schedule, on this line
 abbrev pub schedule_form : ℕ → Workload → LineForm Place
 schedule_form number script = Alone "schedule" (makes (Scheduled script number))
 
 -- a further command of a program, with tests of its own
-abbrev pub gains : Workload → List Command → Command → List (Bool × Why) → Meaning Place
-gains script commands command tests = makes_if (tests ++ (nat_lt (length commands) 64, Count) ∷ []) (Programming script (commands ++ command ∷ []))
+abbrev pub gains : Workload → Program → Command → List (Bool × Why) → Meaning Place
+gains script program command tests = makes_if (tests ++ (nat_lt (length program.commands) 64, Count) ∷ []) (Programming script (gains_command command program))
 
--- get K, put K V, del K, add K N, scan LO HI N
-abbrev pub command_forms : Workload → List Command → List (LineForm Place)
-command_forms script commands =
-    OneNumber "get" (λ key. gains script commands (Get key) [])
-    ∷ NumberAndText "put" (λ key value. gains script commands (Put key value) ((is_value value, Value) ∷ []))
-    ∷ OneNumber "del" (λ key. gains script commands (Del key) [])
-    ∷ TwoNumbers "add" (λ key n. gains script commands (Add key n) [])
-    ∷ ThreeNumbers "scan" (λ lo hi n. gains script commands (Scan lo hi n) ((is_within 1 1000 n, Range) ∷ (nat_le lo hi, Order) ∷ []))
+-- get K, scan LO HI N
+abbrev pub reading_forms : Workload → Program → List (LineForm Place)
+reading_forms script program =
+    OneNumber "get" (λ key. gains script program (Get key) [])
+    ∷ ThreeNumbers "scan" (λ lo hi n. gains script program (Scan lo hi n) ((is_within 1 1000 n, Range) ∷ (nat_le lo hi, Order) ∷ []))
+    ∷ []
+
+-- put K V, del K, add K N
+abbrev pub writing_forms : Workload → Program → List (LineForm Place)
+writing_forms script program =
+    NumberAndText "put" (λ key value. gains script program (Put key value) ((is_value value, Value) ∷ []))
+    ∷ OneNumber "del" (λ key. gains script program (Del key) [])
+    ∷ TwoNumbers "add" (λ key n. gains script program (Add key n) [])
     ∷ []
 
 -- The lines that may stand at a place, this being the line with the number that is given. Where there is a simulation a schedule may follow the clients.
+-- A program that asks for a position only reads.
 abbrev pub forms_at : Bool → Place → ℕ → List (LineForm Place)
-forms_at sim AtStart number = shape_form ∷ []
-forms_at sim (Shaped shape) number = servers_form shape ∷ []
+forms_at sim AtStart number = shape_forms
+forms_at sim (Shaped shape) number = servers_forms shape
 forms_at sim (Listing script) number =
     client_form script
-    ∷ (if nat_lt 0 (length script.clients) then begin_form script ∷ [] else [])
+    ∷ (if nat_lt 0 (length script.clients) then begin_forms script else [])
     ++ (if sim then schedule_form number script ∷ [] else [])
-forms_at sim (Programming script commands) number = command_forms script commands ++ end_form script commands ∷ []
+forms_at sim (Programming script program) number =
+    reading_forms script program ++ (if is_some program.as_of then [] else writing_forms script program) ++ end_form script program ∷ []
 forms_at sim (Scheduled script start) number = []
 
 abbrev pub event_of_client : Workload → Event → ℕ → Meaning Event

@@ -1,14 +1,18 @@
 -- What the line of a place tells, apart from where it leads.
-use Rattle.std.specs.Prelude.{◌≡◌, ◌<◌, ℕ, ⊤, length, List, [], ◌∷◌, ◌++◌, Result, Ok, Err}
-use Rattle.hy_base.specs.declared.workload.Command.{Command}
+use Rattle.std.specs.Prelude.{◌≡◌, ◌<◌, ℕ, Bool, true, ⊤, length, List, is_some, Result, Ok, Err}
+use Rattle.hy_base.specs.declared.workload.Program.{Program}
 use Rattle.hy_base.specs.declared.workload.Client.{Client as ScriptClient}
 use Rattle.hy_base.specs.Shape.{IsWithin, IsGoodShape}
-use Rattle.hy_base.specs.Script.{Workload, IsCommand, IsProgram, client_count}
+use Rattle.hy_base.specs.Entry.{is_told}
+use Rattle.hy_base.specs.Script.{Workload, IsAsOf, IsCommand, IsProgram, IsReading, client_count}
+use Rattle.hy_base.specs.declared.layout.Shape.{Shape}
+use Rattle.hy_base.specs.declared.record.Isolation.TheVariants.{Serializable}
+use Rattle.hy_base.specs.declared.workload.Mode.{Mode}
 use Rattle.hy_script.specs.declared.reader.Place.{Place as PlaceCode}
 use Rattle.hy_script.specs.declared.reader.Place.TheVariants.{Start as StartCode, Shaped as ShapedCode, Listing as ListingCode, Programming as ProgrammingCode}
 use Rattle.hy_script.specs.declared.reader.Step.{Step}
 use Rattle.hy_script.specs.declared.reader.Step.TheVariants.{To, Reaches}
-use Rattle.hy_script.specs.Grammar.{Place, AtStart, Shaped, Listing, Programming, Scheduled, with_client, with_program, last_program_count}
+use Rattle.hy_script.specs.Grammar.{Place, AtStart, Shaped, Listing, Programming, Scheduled, with_client, with_program, begun, gains_command, last_program_count}
 use Rattle.hy_script.specs.declared.why.Why.{Why}
 use Rattle.hy_script.specs.declared.script.LineError.{LineError}
 use Rattle.hy_script.specs.declared.script.LineError.TheVariants.{Unfit, Memory}
@@ -33,19 +37,19 @@ LeadsTo place (Err e) read = FailsAs e read
 
 abbrev pub after_listing : Workload → ℕ → ListingLine → Place
 after_listing script number (Client server) = Listing (with_client server script)
-after_listing script number Begin = Programming script []
+after_listing script number (Begin mode) = Programming script (begun mode)
 after_listing script number Schedule = Scheduled script number
 
-abbrev pub after_program_line : Workload → List Command → ProgramLine → Place
-after_program_line script commands (Next command) = Programming script (commands ++ command ∷ [])
-after_program_line script commands End = Listing (with_program commands script)
+abbrev pub after_program_line : Workload → Program → ProgramLine → Place
+after_program_line script program (Next command) = Programming script (gains_command command program)
+after_program_line script program End = Listing (with_program program script)
 
 -- the place that a program's code has reached, without a schedule
 abbrev pub place_of : PlaceCode → Place
 place_of StartCode = AtStart
 place_of (ShapedCode shape) = Shaped shape
 place_of (ListingCode script) = Listing script
-place_of (ProgrammingCode script commands) = Programming script commands
+place_of (ProgrammingCode script program) = Programming script program
 
 abbrev pub after_step : ℕ → Step → Place
 after_step number (To place) = place_of place
@@ -56,19 +60,24 @@ abbrev pub IsPlace : PlaceCode → Type 0
 IsPlace StartCode = ⊤
 IsPlace (ShapedCode shape) = IsGoodShape shape
 IsPlace (ListingCode script) = ⊤
-IsPlace (ProgrammingCode script commands) = (0 < length script.clients) × (last_program_count script.clients < 10000) × IsProgram (record { commands = commands })
+IsPlace (ProgrammingCode script program) =
+    (0 < length script.clients) × (last_program_count script.clients < 10000) × (is_told script.shape.version program.isolation ≡ true) × IsAsOf script.shape program.as_of × IsProgram program
 
 abbrev pub IsStep : Step → Type 0
 IsStep (To place) = IsPlace place
 IsStep (Reaches script) = ⊤
 
--- what a line between programs tells
-abbrev pub IsClientListed : ℕ → List ScriptClient → ListingLine → Type 0
-IsClientListed servers clients (Client server) = IsWithin 1 servers server × (client_count clients server < 16)
-IsClientListed servers clients Begin = (0 < length clients) × (last_program_count clients < 10000)
-IsClientListed servers clients Schedule = ⊤
+-- a program may ask for this, where a log has this shape; one that asks for a position asks for nothing else
+abbrev pub IsMode : Shape → Mode → Type 0
+IsMode shape mode = IsAsOf shape mode.as_of × (is_some mode.as_of ≡ true → mode.isolation ≡ Serializable)
 
--- and a line of a program that has so many commands
-abbrev pub IsNextLine : ℕ → ProgramLine → Type 0
-IsNextLine count (Next command) = IsCommand command × (count < 64)
-IsNextLine count End = ⊤
+-- what a line between programs tells, in a script of a shape
+abbrev pub IsClientListed : Shape → ℕ → List ScriptClient → ListingLine → Type 0
+IsClientListed shape servers clients (Client server) = IsWithin 1 servers server × (client_count clients server < 16)
+IsClientListed shape servers clients (Begin mode) = (0 < length clients) × (last_program_count clients < 10000) × (is_told shape.version mode.isolation ≡ true) × IsMode shape mode
+IsClientListed shape servers clients Schedule = ⊤
+
+-- and a line of a program that has so many commands, and that only reads where that is asked
+abbrev pub IsNextLine : Bool → ℕ → ProgramLine → Type 0
+IsNextLine reads count (Next command) = IsCommand command × (reads ≡ true → IsReading command) × (count < 64)
+IsNextLine reads count End = ⊤

@@ -20,7 +20,7 @@ abbrev pub place_after : Bool → Place → ℕ × Text → Result Place Why
 place_after sim (Scheduled script start) p = Ok (Scheduled script start)
 place_after sim place p = read_line (forms_at sim place p.0) (words_of p.1)
 
--- the place after all of these lines, or the first that is refused_at
+-- the place after all of these lines, or the first that is refused
 abbrev pub place_after_all : Bool → Place → List (ℕ × Text) → Result Place Refused
 place_after_all sim place [] = Ok place
 place_after_all sim place (p ∷ ps) =
@@ -36,11 +36,11 @@ start_after number bytes = record { offset = offset_after number bytes; line = n
 abbrev pub script_ended : Text → Place → Result Reading Refused
 script_ended bytes AtStart = refused_at (length (lines_of bytes) + 1) Missing
 script_ended bytes (Shaped shape) = refused_at (length (lines_of bytes) + 1) Missing
-script_ended bytes (Programming script commands) = refused_at (length (lines_of bytes) + 1) Missing
+script_ended bytes (Programming script program) = refused_at (length (lines_of bytes) + 1) Missing
 script_ended bytes (Listing script) = Ok (record { script = script; schedule = None })
 script_ended bytes (Scheduled script start) = Ok (record { script = script; schedule = Some (start_after start bytes) })
 
--- the script that the bytes spell, or the first line that is refused_at. With 'sim' a schedule may follow it
+-- the script that the bytes spell, or the first line that is refused. With 'sim' a schedule may follow it
 abbrev pub read_script : Text → Bool → Result Reading Refused
 read_script bytes sim =
     if nat_lt 16777216 (length bytes) then refused_at 0 Long
@@ -50,7 +50,7 @@ read_script bytes sim =
       | Err fault ↦ Err fault
     ]
 
--- the events of these lines, each with the number of its line, or the first line that is refused_at
+-- the events of these lines, each with the number of its line, or the first line that is refused
 abbrev pub events_of : Workload → List (ℕ × Text) → Result (List EventLine) Refused
 events_of script [] = Ok []
 events_of script (p ∷ ps) =

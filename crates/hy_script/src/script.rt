@@ -1,22 +1,25 @@
 //! The lines of a script.
-ghost use Rattle.std.specs.Prelude.{◌≡◌, ◌<◌, ℕ, List, Ok, Err, length, if◌then◌else◌, nat_lt, IfOk};
-ghost use Rattle.hy_base.specs.Script.{IsCommand, client_count};
+ghost use Rattle.std.specs.Prelude.{◌≡◌, ◌<◌, ℕ, Bool, true, false, List, Ok, length, IfOk, IfSome};
+ghost use Rattle.hy_base.specs.declared.workload.Mode.{Mode};
+ghost use Rattle.hy_base.specs.Entry.{is_told};
+ghost use Rattle.hy_base.specs.Script.{IsCommand, IsReading, client_count};
 ghost use Rattle.hy_base.specs.Shape.{IsGoodShape, IsWithin};
-ghost use Rattle.hy_script.specs.Fields.{HasFields, and_then, one_number, two_numbers, three_numbers, no_fields};
-ghost use Rattle.hy_script.specs.LineParts.{IsClientListed, IsNextLine};
-ghost use Rattle.hy_script.specs.ScriptFields.{shape_fields, scan_fields, ValueOf, shape_line, servers_line, number_within, client_fields, listing_line, one_more, put_fields, program_line, TellsField};
+ghost use Rattle.hy_script.specs.Fields.{HasFields, and_then, one_number, two_numbers, three_numbers, four_numbers, no_fields};
+ghost use Rattle.hy_script.specs.LineParts.{IsClientListed, IsMode, IsNextLine};
+ghost use Rattle.hy_script.specs.ScriptFields.{shape_fields, shape_numbers, good_shape, told_by_three, told_by_four, told_with_horizon, servers_fields, servers_line, servers_numbers, position_field, mode_fields, one_more_program, scan_fields, ValueOf, shape_line, number_within, client_fields, listing_line, one_more, put_fields, writing_line, program_line, TellsField};
 ghost use Rattle.hy_script.specs.Lines.{words_of};
 ghost use Rattle.hy_base.specs.declared.workload.Command.TheVariants.{Get, Del, Add};
 ghost use Rattle.hy_base.specs.Limits.{IsServerNumber};
 ghost use Rattle.hy_script.specs.declared.script.ListingLine.TheVariants.{Begin, Schedule};
 ghost use Rattle.hy_script.specs.declared.script.ProgramLine.TheVariants.{End};
-ghost use Rattle.hy_script.specs.declared.why.Why.TheVariants.{Count};
+ghost use Rattle.hy_script.specs.Grammar.{plain_mode};
 
 use crate::Why;
 use crate::words::{
-    Fields, cut_fields, no_fields, number_and_text, one_number, three_numbers, two_numbers,
+    Fields, cut_fields, four_numbers, no_fields, number_and_text, one_number, three_numbers,
+    two_numbers,
 };
-use hy_base::{Client, Command, Shape, Value, ValueError};
+use hy_base::{Client, Command, Isolation, Mode, Pos, Shape, Value, ValueError, tells_isolation};
 use std::alloc::{AllocError, Global};
 
 /// Why a line was not read.
@@ -52,7 +55,7 @@ impl From<AllocError> for LineError {
 #[derive(Clone, Copy)]
 pub enum ListingLine {
     Client(u8),
-    Begin,
+    Begin(Mode),
     Schedule,
 }
 
@@ -63,22 +66,111 @@ pub enum ProgramLine {
     End,
 }
 
+/// How many servers a line tells, and how many of its last boards each of them keeps.
+#[derive(Clone, Copy)]
+pub struct ToldServers {
+    pub servers: u8,
+    pub keeps: u8,
+}
+
+/// What a line tells of a shape.
+#[derive(Clone, Copy)]
+pub struct ToldShape {
+    group: u64,
+    window: u64,
+    cap: u64,
+    version: u64,
+    horizon: Option<u64>,
+}
+
+// Three numbers are of version 1.
+fn told_by_three(fields: Fields<'_>) -> Result<ToldShape, Why>
+    ensures { (words : List (List ℕ)) → HasFields fields.entry words → result ≡ told_by_three words }
+{
+    let (group, window, cap) = three_numbers(fields)?;
+    Ok(ToldShape {
+        group,
+        window,
+        cap,
+        version: 1,
+        horizon: None,
+    })
+}
+
+// A fourth number is the version.
+fn told_by_four(fields: Fields<'_>) -> Result<ToldShape, Why>
+    ensures { (words : List (List ℕ)) → HasFields fields.entry words → result ≡ told_by_four words }
+{
+    let (group, window, cap, version) = four_numbers(fields)?;
+    Ok(ToldShape {
+        group,
+        window,
+        cap,
+        version,
+        horizon: None,
+    })
+}
+
+// Or it is the horizon of a shape of version 3.
+fn told_with_horizon(fields: Fields<'_>) -> Result<ToldShape, Why>
+    ensures { (words : List (List ℕ)) → HasFields fields.entry words → result ≡ told_with_horizon words }
+{
+    let (group, window, cap, horizon) = four_numbers(fields)?;
+    Ok(ToldShape {
+        group,
+        window,
+        cap,
+        version: 3,
+        horizon: Some(horizon),
+    })
+}
+
+// A horizon stands behind the version 3, and behind no other.
+fn shape_numbers(fields: Fields<'_>) -> Result<ToldShape, Why>
+    ensures { (words : List (List ℕ)) → HasFields fields.entry words → result ≡ shape_numbers words }
+{
+    match fields {
+        Fields::Four(_, _, _, version) => {
+            if version == b"3".as_slice() {
+                return Err(Why::Form);
+            }
+            told_by_four(fields)
+        }
+        Fields::Five(group, window, cap, version, horizon) => {
+            if version == b"3".as_slice() {
+                return told_with_horizon(Fields::Four(group, window, cap, horizon));
+            }
+            Err(Why::Form)
+        }
+        _ => told_by_three(fields),
+    }
+}
+
+// The shape that is told, where each number is in its range.
+fn good_shape(told: ToldShape) -> Option<Shape>
+    ensures exact { result ≡ good_shape told }
+    ensures good { IfSome result IsGoodShape }
+{
+    let horizon = match told.horizon {
+        Some(horizon) => Some(u32::try_from(horizon).ok()?),
+        None => None,
+    };
+    let shape = Shape {
+        group: u8::try_from(told.group).ok()?,
+        window: u8::try_from(told.window).ok()?,
+        cap: u32::try_from(told.cap).ok()?,
+        version: u8::try_from(told.version).ok()?,
+        horizon,
+    };
+    shape.check().ok()?;
+    Some(shape)
+}
+
 fn shape_of(fields: Fields<'_>) -> Result<Shape, Why>
     ensures exact { (words : List (List ℕ)) → HasFields fields.entry words → result ≡ shape_fields words }
     ensures good { IfOk result IsGoodShape }
 {
-    let (group, window, cap) = three_numbers(fields)?;
-    if group < 1 || group > 8 || window < 1 || window > 64 {
-        return Err(Why::Range);
-    }
-    if cap < group || cap > 2147483648 || cap % group != 0 {
-        return Err(Why::Range);
-    }
-    Ok(Shape {
-        group: group as u8,
-        window: window as u8,
-        cap: cap as u32,
-    })
+    good_shape(shape_numbers(fields)?).ok_or(Why::Range)
 }
 
 /// The shape.
@@ -105,14 +197,39 @@ fn within(low: u8, high: u8, fields: Fields<'_>) -> Result<u8, Why>
     }
 }
 
-/// The number of servers.
-pub fn read_servers(line: &[u8]) -> Result<u8, Why>
+// A server keeps one board, unless a second number says otherwise.
+fn servers_numbers(fields: Fields<'_>) -> Result<(u64, u64), Why>
+    ensures { (words : List (List ℕ)) → HasFields fields.entry words → result ≡ servers_numbers words }
+{
+    match fields {
+        Fields::One(_) => Ok((one_number(fields)?, 1)),
+        _ => two_numbers(fields),
+    }
+}
+
+fn servers_of(fields: Fields<'_>) -> Result<ToldServers, Why>
+    ensures exact { (words : List (List ℕ)) → HasFields fields.entry words → result ≡ servers_fields words }
+    ensures range { IfOk result (λ told. IsServerNumber told.servers × IsWithin 1 64 told.keeps) }
+{
+    let (servers, keeps) = servers_numbers(fields)?;
+    if 1 <= servers && servers <= 8 && 1 <= keeps && keeps <= 64 {
+        Ok(ToldServers {
+            servers: servers as u8,
+            keeps: keeps as u8,
+        })
+    } else {
+        Err(Why::Range)
+    }
+}
+
+/// The number of servers, and how many boards each keeps.
+pub fn read_servers(line: &[u8]) -> Result<ToldServers, Why>
     ensures exact { result ≡ servers_line (words_of line.now) }
-    ensures range { IfOk result (λ n. IsServerNumber n) }
+    ensures range { IfOk result (λ told. IsServerNumber told.servers × IsWithin 1 64 told.keeps) }
 {
     let (word, fields) = cut_fields(line);
     if word == b"servers".as_slice() {
-        return within(1, 8, fields);
+        return servers_of(fields);
     }
     Err(Why::Word)
 }
@@ -128,8 +245,8 @@ fn count_of(clients: &[Client], server: u8) -> usize
 }
 
 fn client_of(servers: u8, clients: &[Client], fields: Fields<'_>) -> Result<ListingLine, Why>
-    ensures exact { (words : List (List ℕ)) (shape : Shape) → HasFields fields.entry words → result ≡ client_fields (record { shape = shape; servers = servers; clients = clients.now }) words }
-    ensures fits { IfOk result (IsClientListed servers clients.now) }
+    ensures exact { (words : List (List ℕ)) (shape : Shape) (keeps : ℕ) → HasFields fields.entry words → result ≡ client_fields (record { shape = shape; servers = servers; keeps = keeps; clients = clients.now }) words }
+    ensures fits { (shape : Shape) → IfOk result (IsClientListed shape servers clients.now) }
 {
     let server = within(1, servers, fields)?;
     if count_of(clients, server) < 16 {
@@ -139,16 +256,90 @@ fn client_of(servers: u8, clients: &[Client], fields: Fields<'_>) -> Result<List
     }
 }
 
-fn begin_of(last: &Client, fields: Fields<'_>) -> Result<ListingLine, Why>
-    ensures exact { (words : List (List ℕ)) → HasFields fields.entry words → result ≡ and_then (no_fields words) (λ u. if nat_lt (length last.now.programs) 10000 then Ok Begin else Err Count) }
-    ensures fits { IfOk result (λ l. (l ≡ Begin) × (length last.now.programs < 10000)) }
+// The position that is the only field.
+fn position_of(shape: Shape, fields: Fields<'_>) -> Result<Mode, Why>
+    requires { 0 < shape.group }
+    ensures exact { (words : List (List ℕ)) → HasFields fields.entry words → result ≡ position_field shape words }
+    ensures fits { IfOk result (IsMode shape) }
 {
-    no_fields(fields)?;
-    if last.programs.len() < 10000 {
-        Ok(ListingLine::Begin)
+    let pos = one_number(fields)?;
+    if pos % shape.group as u64 == 0 && pos <= shape.cap as u64 {
+        Ok(Mode {
+            isolation: Isolation::Serializable,
+            as_of: Some(pos as Pos),
+        })
+    } else {
+        Err(Why::Range)
+    }
+}
+
+// A program that asks for no position.
+fn plain_mode(isolation: Isolation) -> Mode
+    ensures { result ≡ plain_mode isolation }
+{
+    Mode {
+        isolation,
+        as_of: None,
+    }
+}
+
+// A program is at Serializable isolation, on what its server has published, unless its line says otherwise.
+fn mode_of(shape: Shape, fields: Fields<'_>) -> Result<Mode, Why>
+    requires { 0 < shape.group }
+    ensures exact { (words : List (List ℕ)) → HasFields fields.entry words → result ≡ mode_fields shape words }
+    ensures fits { IfOk result (IsMode shape) }
+{
+    match fields {
+        Fields::Zero => Ok(plain_mode(Isolation::Serializable)),
+        Fields::One(word) => {
+            if word == b"snapshot".as_slice() {
+                return Ok(plain_mode(Isolation::Snapshot));
+            }
+            Err(Why::Form)
+        }
+        Fields::Two(word, pos) => {
+            if word == b"at".as_slice() {
+                return position_of(shape, Fields::One(pos));
+            }
+            Err(Why::Form)
+        }
+        _ => Err(Why::Form),
+    }
+}
+
+// A version tells this isolation.
+fn is_told(version: u8, isolation: Isolation) -> bool
+    ensures { result ≡ is_told version isolation }
+{
+    match isolation {
+        Isolation::Serializable => true,
+        Isolation::Snapshot => tells_isolation(version),
+    }
+}
+
+// A program that asks for this, after so many of its client.
+fn one_more_program(version: u8, count: usize, mode: Mode) -> Result<ListingLine, Why>
+    ensures exact { result ≡ one_more_program version count mode }
+    ensures fits { IfOk result (λ l. (l ≡ Begin mode) × (count < 10000) × (is_told version mode.isolation ≡ true)) }
+{
+    if count < 10000 {
+        if is_told(version, mode.isolation) {
+            Ok(ListingLine::Begin(mode))
+        } else {
+            Err(Why::Version)
+        }
     } else {
         Err(Why::Count)
     }
+}
+
+fn begin_of(shape: Shape, last: &Client, fields: Fields<'_>) -> Result<ListingLine, Why>
+    requires { 0 < shape.group }
+    ensures exact { (words : List (List ℕ)) → HasFields fields.entry words → result ≡ and_then (mode_fields shape words) (one_more_program shape.version (length last.now.programs)) }
+    ensures fits { IfOk result (λ l. (mode : Mode) × (l ≡ Begin mode) × (length last.now.programs < 10000) × (is_told shape.version mode.isolation ≡ true) × IsMode shape mode) }
+{
+    let mode = mode_of(shape, fields)?;
+    one_more_program(shape.version, last.programs.len(), mode)
 }
 
 fn schedule_of(fields: Fields<'_>) -> Result<ListingLine, Why>
@@ -161,7 +352,7 @@ fn schedule_of(fields: Fields<'_>) -> Result<ListingLine, Why>
 
 fn scan_of(fields: Fields<'_>) -> Result<Command, Why>
     ensures exact { (words : List (List ℕ)) → HasFields fields.entry words → result ≡ scan_fields words }
-    ensures lawful { IfOk result IsCommand }
+    ensures lawful { IfOk result (λ command. IsCommand command × IsReading command) }
 {
     let (lo, hi, n) = three_numbers(fields)?;
     if n < 1 || n > 1000 {
@@ -193,12 +384,14 @@ fn value_of(alloc: Global, text: &[u8]) -> Result<Value, LineError>
 #[tactic(auto, using(crate::proofs::ScriptLines::last_count))]
 pub fn read_listing(
     sim: bool,
+    shape: Shape,
     servers: u8,
     clients: &[Client],
     line: &[u8],
 ) -> Result<ListingLine, Why>
-    ensures exact { (shape : Shape) → result ≡ listing_line sim (record { shape = shape; servers = servers; clients = clients.now }) (words_of line.now) }
-    ensures fits { IfOk result (IsClientListed servers clients.now) }
+    requires { 0 < shape.group }
+    ensures exact { (keeps : ℕ) → result ≡ listing_line sim (record { shape = shape; servers = servers; keeps = keeps; clients = clients.now }) (words_of line.now) }
+    ensures fits { IfOk result (IsClientListed shape servers clients.now) }
 {
     let (word, fields) = cut_fields(line);
     if word == b"client".as_slice() {
@@ -206,7 +399,7 @@ pub fn read_listing(
     }
     if word == b"begin".as_slice() {
         return match clients.last() {
-            Some(last) => begin_of(last, fields),
+            Some(last) => begin_of(shape, last, fields),
             None => Err(Why::Word),
         };
     }
@@ -220,7 +413,7 @@ pub fn read_listing(
 fn one_more(count: usize, command: Command) -> Result<ProgramLine, Why>
     requires lawful { IsCommand command }
     ensures exact { result ≡ one_more count command }
-    ensures fits { IfOk result (IsNextLine count) }
+    ensures fits { (reads : Bool) → (reads ≡ true → IsReading command) → IfOk result (IsNextLine reads count) }
 {
     if count < 64 {
         Ok(ProgramLine::Next(command))
@@ -231,7 +424,7 @@ fn one_more(count: usize, command: Command) -> Result<ProgramLine, Why>
 
 fn get_of(count: usize, fields: Fields<'_>) -> Result<ProgramLine, LineError>
     ensures exact { (words : List (List ℕ)) → HasFields fields.entry words → TellsField result (and_then (one_number words) (λ key. one_more count (Get key))) }
-    ensures fits { IfOk result (IsNextLine count) }
+    ensures fits { (reads : Bool) → IfOk result (IsNextLine reads count) }
 {
     let line = one_more(count, Command::Get(one_number(fields)?))?;
     Ok(line)
@@ -239,7 +432,7 @@ fn get_of(count: usize, fields: Fields<'_>) -> Result<ProgramLine, LineError>
 
 fn del_of(count: usize, fields: Fields<'_>) -> Result<ProgramLine, LineError>
     ensures exact { (words : List (List ℕ)) → HasFields fields.entry words → TellsField result (and_then (one_number words) (λ key. one_more count (Del key))) }
-    ensures fits { IfOk result (IsNextLine count) }
+    ensures fits { IfOk result (IsNextLine false count) }
 {
     let line = one_more(count, Command::Del(one_number(fields)?))?;
     Ok(line)
@@ -247,7 +440,7 @@ fn del_of(count: usize, fields: Fields<'_>) -> Result<ProgramLine, LineError>
 
 fn add_of(count: usize, fields: Fields<'_>) -> Result<ProgramLine, LineError>
     ensures exact { (words : List (List ℕ)) → HasFields fields.entry words → TellsField result (and_then (two_numbers words) (λ p. one_more count (Add p.0 p.1))) }
-    ensures fits { IfOk result (IsNextLine count) }
+    ensures fits { IfOk result (IsNextLine false count) }
 {
     let (key, n) = two_numbers(fields)?;
     let line = one_more(count, Command::Add(key, n))?;
@@ -256,7 +449,7 @@ fn add_of(count: usize, fields: Fields<'_>) -> Result<ProgramLine, LineError>
 
 fn counted_scan(count: usize, fields: Fields<'_>) -> Result<ProgramLine, LineError>
     ensures exact { (words : List (List ℕ)) → HasFields fields.entry words → TellsField result (and_then (scan_fields words) (one_more count)) }
-    ensures fits { IfOk result (IsNextLine count) }
+    ensures fits { (reads : Bool) → IfOk result (IsNextLine reads count) }
 {
     let line = one_more(count, scan_of(fields)?)?;
     Ok(line)
@@ -272,7 +465,7 @@ fn end_of(fields: Fields<'_>) -> Result<ProgramLine, LineError>
 
 fn put_of(alloc: Global, count: usize, fields: Fields<'_>) -> Result<ProgramLine, LineError>
     ensures exact { (words : List (List ℕ)) → HasFields fields.entry words → TellsField result (put_fields count words) }
-    ensures fits { IfOk result (IsNextLine count) }
+    ensures fits { IfOk result (IsNextLine false count) }
 {
     let (key, text) = number_and_text(fields)?;
     let value = value_of(alloc, text)?;
@@ -280,15 +473,16 @@ fn put_of(alloc: Global, count: usize, fields: Fields<'_>) -> Result<ProgramLine
     Ok(line)
 }
 
-/// A line of a program that has so many commands.
-pub fn read_program_line(alloc: Global, count: usize, line: &[u8]) -> Result<ProgramLine, LineError>
-    ensures exact { TellsField result (program_line count (words_of line.now)) }
-    ensures fits { IfOk result (IsNextLine count) }
+// A line of a program that may also write.
+fn read_writing_line(
+    alloc: Global,
+    count: usize,
+    word: &[u8],
+    fields: Fields<'_>,
+) -> Result<ProgramLine, LineError>
+    ensures exact { (words : List (List ℕ)) → HasFields fields.entry words → TellsField result (writing_line count word.now words) }
+    ensures fits { IfOk result (IsNextLine false count) }
 {
-    let (word, fields) = cut_fields(line);
-    if word == b"get".as_slice() {
-        return get_of(count, fields);
-    }
     if word == b"put".as_slice() {
         return put_of(alloc, count, fields);
     }
@@ -298,11 +492,31 @@ pub fn read_program_line(alloc: Global, count: usize, line: &[u8]) -> Result<Pro
     if word == b"add".as_slice() {
         return add_of(count, fields);
     }
+    Err(LineError::Unfit(Why::Word))
+}
+
+/// A line of a program that has so many commands. Where it asks for a position, it only reads.
+pub fn read_program_line(
+    alloc: Global,
+    reads: bool,
+    count: usize,
+    line: &[u8],
+) -> Result<ProgramLine, LineError>
+    ensures exact { TellsField result (program_line reads count (words_of line.now)) }
+    ensures fits { IfOk result (IsNextLine reads count) }
+{
+    let (word, fields) = cut_fields(line);
+    if word == b"get".as_slice() {
+        return get_of(count, fields);
+    }
     if word == b"scan".as_slice() {
         return counted_scan(count, fields);
     }
     if word == b"end".as_slice() {
         return end_of(fields);
     }
-    Err(LineError::Unfit(Why::Word))
+    if reads {
+        return Err(LineError::Unfit(Why::Word));
+    }
+    read_writing_line(alloc, count, word, fields)
 }

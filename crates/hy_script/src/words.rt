@@ -1,8 +1,8 @@
 //! How a line is cut into its first word and its fields.
-ghost use Rattle.std.specs.Prelude.{◌≡◌, ℕ, List, []};
+ghost use Rattle.std.specs.Prelude.{◌≡◌, ◌++◌, ◌∷◌, ℕ, List, []};
 ghost use Rattle.std.specs.Option.{option_map_or};
 ghost use Rattle.hy_script.specs.Lines.{pieces_of, words_of};
-ghost use Rattle.hy_script.specs.Fields.{HasFields, HasWords, number_field, one_number, two_numbers, three_numbers, number_and_text, no_fields};
+ghost use Rattle.hy_script.specs.Fields.{HasFields, HasWords, number_field, one_number, two_numbers, three_numbers, four_numbers, number_and_text, no_fields};
 ghost use Rattle.std.specs.Result.{result_map_both};
 
 use crate::Why;
@@ -16,39 +16,41 @@ pub enum Fields<'a> {
     One(&'a [u8]),
     Two(&'a [u8], &'a [u8]),
     Three(&'a [u8], &'a [u8], &'a [u8]),
-    /// One is empty, or there are more than three.
+    Four(&'a [u8], &'a [u8], &'a [u8], &'a [u8]),
+    Five(&'a [u8], &'a [u8], &'a [u8], &'a [u8], &'a [u8]),
+    /// One is empty, or there are more than five.
     Bad,
 }
 
-#[tactic(auto, using(crate::proofs::Cutting::has_pieces))]
-fn fields_of(rest: Option<&[u8]>) -> Fields<'_>
+impl<'a> Fields<'a> {
+    // These fields, and one more.
+    fn with(self, field: &'a [u8]) -> Fields<'a>
+        ensures { (words : List (List ℕ)) → HasFields self.entry words → HasFields result (words ++ field.now ∷ []) }
+    {
+        if field.is_empty() {
+            return Fields::Bad;
+        }
+        match self {
+            Fields::Zero => Fields::One(field),
+            Fields::One(a) => Fields::Two(a, field),
+            Fields::Two(a, b) => Fields::Three(a, b, field),
+            Fields::Three(a, b, c) => Fields::Four(a, b, c, field),
+            Fields::Four(a, b, c, d) => Fields::Five(a, b, c, d, field),
+            Fields::Five(..) | Fields::Bad => Fields::Bad,
+        }
+    }
+}
+
+fn fields_of(mut rest: Option<&[u8]>) -> Fields<'_>
     ensures { HasFields result (option_map_or (λ bytes. pieces_of 32 bytes.now) rest.entry []) }
 {
-    let Some(rest) = rest else {
-        return Fields::Zero;
-    };
-    let (first, rest) = cut(b' ', rest);
-    if first.is_empty() {
-        return Fields::Bad;
+    let mut fields = Fields::Zero;
+    while let Some(bytes) = rest {
+        let (field, more) = cut(b' ', bytes);
+        fields = fields.with(field);
+        rest = more;
     }
-    let Some(rest) = rest else {
-        return Fields::One(first);
-    };
-    let (second, rest) = cut(b' ', rest);
-    if second.is_empty() {
-        return Fields::Bad;
-    }
-    let Some(rest) = rest else {
-        return Fields::Two(first, second);
-    };
-    let (third, rest) = cut(b' ', rest);
-    if third.is_empty() {
-        return Fields::Bad;
-    }
-    match rest {
-        None => Fields::Three(first, second, third),
-        Some(_) => Fields::Bad,
-    }
+    fields
 }
 
 /// The first word of a line, and its fields.
@@ -91,6 +93,23 @@ pub fn three_numbers(fields: Fields<'_>) -> Result<(u64, u64, u64), Why>
 {
     match fields {
         Fields::Three(a, b, c) => Ok((number_field(a)?, number_field(b)?, number_field(c)?)),
+        _ => Err(Why::Form),
+    }
+}
+
+/// The four numbers that are the fields.
+pub fn four_numbers(fields: Fields<'_>) -> Result<(u64, u64, u64, u64), Why>
+    ensures { (words : List (List ℕ)) → HasFields fields.entry words → result ≡ four_numbers words }
+{
+    match fields {
+        Fields::Four(a, b, c, d) => {
+            Ok((
+                number_field(a)?,
+                number_field(b)?,
+                number_field(c)?,
+                number_field(d)?,
+            ))
+        }
         _ => Err(Why::Form),
     }
 }

@@ -26,11 +26,13 @@ module _ {X : Type 0} (xs : List X) (n : ℕ) (start out : List ℕ) where
   items_written f ended before = sym (append-nil out) ∙ ap (λ l. out ++ flat_map f l) (sym (drop_all n xs ended)) ∙ before
 
   -- the same of items with their numbers
-  pub numbered_written : (f : ℕ × X → List ℕ) (d x : X) (now : List ℕ) → n < length xs → x ≡ get_or xs n d → now ≡ out ++ f (n + 1, x)
-      → out ++ flat_map f (enumerate_from (n + 1) (drop n xs)) ≡ start → now ++ flat_map f (enumerate_from (n + 1 + 1) (drop (n + 1) xs)) ≡ start
-  numbered_written f d x now within is wrote before =
-      let rest = flat_map f (enumerate_from (n + 1 + 1) (drop (n + 1) xs)) in
-      ap (λ o. o ++ rest) wrote ∙ append_assoc out (f (n + 1, x)) rest ∙ ap (λ l. out ++ flat_map f (enumerate_from (n + 1) l)) (sym (next_item xs n d x within is)) ∙ before
+  pub numbered_written : (first : ℕ) (f : ℕ × X → List ℕ) (d x : X) (now : List ℕ) → n < length xs → x ≡ get_or xs n d → now ≡ out ++ f (n + first, x)
+      → out ++ flat_map f (enumerate_from (n + first) (drop n xs)) ≡ start → now ++ flat_map f (enumerate_from (n + 1 + first) (drop (n + 1) xs)) ≡ start
+  numbered_written first f d x now within is wrote before =
+      let rest = flat_map f (enumerate_from (n + first + 1) (drop (n + 1) xs)) in
+      let next : n + 1 + first ≡ n + first + 1 = omega arith in
+      ap (λ p. now ++ flat_map f (enumerate_from p (drop (n + 1) xs))) next
+      ∙ (ap (λ o. o ++ rest) wrote ∙ append_assoc out (f (n + first, x)) rest ∙ ap (λ l. out ++ flat_map f (enumerate_from (n + first) l)) (sym (next_item xs n d x within is)) ∙ before)
 
-  pub all_numbered : (f : ℕ × X → List ℕ) → length xs ≤ n → out ++ flat_map f (enumerate_from (n + 1) (drop n xs)) ≡ start → out ≡ start
-  all_numbered f ended before = sym (append-nil out) ∙ ap (λ l. out ++ flat_map f (enumerate_from (n + 1) l)) (sym (drop_all n xs ended)) ∙ before
+  pub all_numbered : (first : ℕ) (f : ℕ × X → List ℕ) → length xs ≤ n → out ++ flat_map f (enumerate_from (n + first) (drop n xs)) ≡ start → out ≡ start
+  all_numbered first f ended before = sym (append-nil out) ∙ ap (λ l. out ++ flat_map f (enumerate_from (n + first) l)) (sym (drop_all n xs ended)) ∙ before

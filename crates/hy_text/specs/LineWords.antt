@@ -9,5 +9,5 @@ word_text (Plain word) = word.now
 word_text (Number n) = decimal n
 
 -- each word after a space
-abbrev pub spaced : List Word → Text
-spaced words = flat_map (λ word. 32 ∷ word_text word) words
+unfoldable pub spaced : List Text → Text
+spaced words = flat_map (λ word. 32 ∷ word) words

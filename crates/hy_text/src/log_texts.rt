@@ -4,14 +4,17 @@
 ghost use Rattle.std.specs.Prelude.{◌≡◌, ◌∷◌, ◌+◌, ◌-◌, ◌++◌, [], length, codes, decimal, flat_map, IfOk, OnOk};
 ghost use Rattle.std.specs.List.{enumerate_from};
 ghost use Rattle.hy_base.specs.Spelling.{line};
-ghost use Rattle.hy_formats.specs.Texts.{ahead_fault_text, check_text, config_fault_text, device_fault_text, dump_text, entry_fault_text, entry_text, judged_text, page_fault_text, point_fault_text, row_text, waiting_text};
+ghost use Rattle.hy_formats.specs.EntryFormat.{isolation_code};
+ghost use Rattle.hy_formats.specs.Texts.{ahead_fault_text, behind_fault_text, check_text, compact_fault_text, compact_text, config_fault_text, device_fault_text, dump_text, entry_fault_text, entry_text, frame_fault_text, from_words, isolation_words, judged_text, page_fault_text, point_fault_text, row_text, shape_words, spare_fault_text, version_words, waiting_text};
+ghost use Rattle.hy_text.specs.LineWords.{spaced};
 
-use crate::texts::{Word, put_line, put_rows, put_verdict};
-use hy_base::{Entry, EntryKind, Intention, Pos, Row, Shape, Verdict};
+use crate::texts::{Word, put_line, put_rows, put_verdict, put_words};
+use hy_base::{Entry, EntryKind, Intention, Isolation, Pos, Row, Shape, Verdict, tells_isolation};
+use hy_formats::Header;
 use std::alloc::{AllocError, Global};
 
 fn put_filler(out: &mut Vec<u8>, pos: u64, server: u8) -> Result<(), AllocError>
-    ensures { OnOk result (out.new.items ≡ out.old.items ++ entry_text (pos, EntryKind.Filler server)) }
+    ensures { OnOk result (out.new.items ≡ out.old.items ++ line (codes "entry" ∷ decimal pos ∷ codes "server" ∷ decimal server ∷ codes "filler" ∷ [])) }
 {
     let words = [
         Word::Number(pos),
@@ -22,8 +25,35 @@ fn put_filler(out: &mut Vec<u8>, pos: u64, server: u8) -> Result<(), AllocError>
     put_line(out, b"entry", &words)
 }
 
-fn put_transaction(out: &mut Vec<u8>, pos: u64, intention: &Intention) -> Result<(), AllocError>
-    ensures { OnOk result (out.new.items ≡ out.old.items ++ entry_text (pos, EntryKind.Txn intention.now)) }
+// The number that tells an isolation.
+fn isolation_code(isolation: Isolation) -> u64
+    ensures { result ≡ isolation_code isolation }
+{
+    match isolation {
+        Isolation::Serializable => 0,
+        Isolation::Snapshot => 1,
+    }
+}
+
+// The words for the isolation of an entry, which is told from version 2 on.
+#[tactic(auto, unfolding(crate::specs::LineWords::spaced))]
+fn put_isolation(out: &mut Vec<u8>, version: u8, isolation: Isolation) -> Result<(), AllocError>
+    ensures { OnOk result (out.new.items ≡ out.old.items ++ spaced (isolation_words version isolation)) }
+{
+    if tells_isolation(version) {
+        let words = [Word::Plain(b"iso"), Word::Number(isolation_code(isolation))];
+        put_words(out, &words)?;
+    }
+    Ok(())
+}
+
+fn put_transaction(
+    out: &mut Vec<u8>,
+    version: u8,
+    pos: u64,
+    intention: &Intention,
+) -> Result<(), AllocError>
+    ensures { OnOk result (out.new.items ≡ out.old.items ++ entry_text version (pos, EntryKind.Txn intention.now)) }
 {
     let words = [
         Word::Number(pos),
@@ -40,60 +70,107 @@ fn put_transaction(out: &mut Vec<u8>, pos: u64, intention: &Intention) -> Result
         Word::Plain(b"writes"),
         Word::Number(intention.writes.len() as u64),
     ];
-    put_line(out, b"entry", &words)
+    out.extend_from_slice(b"entry")?;
+    put_words(out, &words)?;
+    put_isolation(out, version, intention.isolation)?;
+    out.push(b'\n')?;
+    Ok(())
 }
 
-fn put_entry(out: &mut Vec<u8>, pos: u64, entry: &Entry) -> Result<(), AllocError>
-    ensures { OnOk result (out.new.items ≡ out.old.items ++ entry_text (pos, entry.now)) }
+fn put_entry(out: &mut Vec<u8>, version: u8, pos: u64, entry: &Entry) -> Result<(), AllocError>
+    ensures { OnOk result (out.new.items ≡ out.old.items ++ entry_text version (pos, entry.now)) }
 {
     match entry.kind() {
         EntryKind::Filler { server } => put_filler(out, pos, *server),
-        EntryKind::Txn(intention) => put_transaction(out, pos, intention),
+        EntryKind::Txn(intention) => put_transaction(out, version, pos, intention),
     }
 }
 
-// The entries, from position 1 on.
-fn put_entries(out: &mut Vec<u8>, entries: &[Entry]) -> Result<(), AllocError>
-    ensures { OnOk result (out.new.items ≡ out.old.items ++ flat_map entry_text (enumerate_from 1 entries.now)) }
+// The entries past a position.
+fn put_entries(
+    out: &mut Vec<u8>,
+    version: u8,
+    from: Pos,
+    entries: &[Entry],
+) -> Result<(), AllocError>
+    ensures { OnOk result (out.new.items ≡ out.old.items ++ flat_map (entry_text version) (enumerate_from (from + 1) entries.now)) }
 {
+    let first = from as u64 + 1;
     for (at, entry) in entries.iter().enumerate() {
-        put_entry(out, at as u64 + 1, entry)?;
+        put_entry(out, version, at as u64 + first, entry)?;
     }
     Ok(())
 }
 
-// How the log is cut, and how many entries it has.
-fn put_header(out: &mut Vec<u8>, shape: Shape, count: usize) -> Result<(), AllocError>
-    ensures { OnOk result (out.new.items ≡ out.old.items ++ line (codes "log" ∷ codes "group" ∷ decimal shape.group ∷ codes "window" ∷ decimal shape.window ∷ codes "cap" ∷ decimal shape.cap ∷ codes "entries" ∷ decimal count ∷ [])) }
+// The words for the version of a log, which is told from 2 on, and for its horizon, where it has one.
+#[tactic(auto, unfolding(crate::specs::LineWords::spaced))]
+fn put_version(out: &mut Vec<u8>, shape: Shape) -> Result<(), AllocError>
+    ensures { OnOk result (out.new.items ≡ out.old.items ++ spaced (version_words shape)) }
 {
-    let words = [
+    if shape.version == 1 {
+        return Ok(());
+    }
+    let version = [Word::Plain(b"version"), Word::Number(shape.version as u64)];
+    put_words(out, &version)?;
+    if let Some(horizon) = shape.horizon {
+        let words = [Word::Plain(b"horizon"), Word::Number(horizon as u64)];
+        put_words(out, &words)?;
+    }
+    Ok(())
+}
+
+// The words for the position up to which a log was cut, which is told where it was.
+#[tactic(auto, unfolding(crate::specs::LineWords::spaced))]
+fn put_from(out: &mut Vec<u8>, from: Pos) -> Result<(), AllocError>
+    ensures { OnOk result (out.new.items ≡ out.old.items ++ spaced (from_words from)) }
+{
+    if from == 0 {
+        return Ok(());
+    }
+    let words = [Word::Plain(b"from"), Word::Number(from as u64)];
+    put_words(out, &words)
+}
+
+// What the log's header tells, and how many entries the log has.
+fn put_header(out: &mut Vec<u8>, header: Header, count: usize) -> Result<(), AllocError>
+    ensures { OnOk result (out.new.items ≡ out.old.items ++ line (codes "log" ∷ shape_words header.shape ++ (from_words header.from ++ codes "entries" ∷ decimal count ∷ []))) }
+{
+    let shape = header.shape;
+    let size = [
         Word::Plain(b"group"),
         Word::Number(shape.group as u64),
         Word::Plain(b"window"),
         Word::Number(shape.window as u64),
         Word::Plain(b"cap"),
         Word::Number(shape.cap as u64),
-        Word::Plain(b"entries"),
-        Word::Number(count as u64),
     ];
-    put_line(out, b"log", &words)
+    let entries = [Word::Plain(b"entries"), Word::Number(count as u64)];
+    out.extend_from_slice(b"log")?;
+    put_words(out, &size)?;
+    put_version(out, shape)?;
+    put_from(out, header.from)?;
+    put_words(out, &entries)?;
+    out.push(b'\n')?;
+    Ok(())
 }
 
-/// The text of a log: its shape, and each entry in its line, from position 1 on. Where there is no shape, the device has
-/// no header, and the text is `empty`.
+/// The text of a log: its shape, and each entry in its line with its position, the first past the position up to which
+/// the log was cut. From version 2 on the version is told behind the cap, then the horizon of a log that has one, and the
+/// isolation of each transaction at the end of its line; of a log that was cut, the position stands behind its shape.
+/// Where there is no header, the text is `empty`.
 pub fn write_dump(
     alloc: Global,
-    shape: Option<Shape>,
+    header: Option<Header>,
     entries: &[Entry],
 ) -> Result<Vec<u8>, AllocError>
-    ensures { IfOk result (λ text. text.items ≡ dump_text shape entries.now) }
+    ensures { IfOk result (λ text. text.items ≡ dump_text header entries.now) }
 {
     let mut out = Vec::new(alloc);
-    match shape {
+    match header {
         None => put_line(&mut out, b"empty", &[])?,
-        Some(shape) => {
-            put_header(&mut out, shape, entries.len())?;
-            put_entries(&mut out, entries)?;
+        Some(header) => {
+            put_header(&mut out, header, entries.len())?;
+            put_entries(&mut out, header.shape.version, header.from, entries)?;
         }
     }
     Ok(out)
@@ -243,5 +320,66 @@ pub fn ahead_line(alloc: Global, point: Pos, log: Pos) -> Result<Vec<u8>, AllocE
         Word::Number(log as u64),
     ];
     put_line(&mut out, b"hyder: point", &words)?;
+    Ok(out)
+}
+
+/// The line for a log that was cut past the base of the saved point, or was cut where there is no point: the point's base,
+/// 0 without one, and the position up to which the log was cut.
+pub fn behind_line(alloc: Global, base: Pos, from: Pos) -> Result<Vec<u8>, AllocError>
+    ensures { IfOk result (λ text. text.items ≡ behind_fault_text base from) }
+{
+    let mut out = Vec::new(alloc);
+    let words = [
+        Word::Number(base as u64),
+        Word::Plain(b"log from"),
+        Word::Number(from as u64),
+    ];
+    put_line(&mut out, b"hyder: point base", &words)?;
+    Ok(out)
+}
+
+/// The line for a log of which nothing can be left out: the position up to which it was cut, 0 where it wasn't, and the
+/// base of the saved point, 0 where there is none.
+pub fn compact_fault_line(alloc: Global, from: Pos, base: Pos) -> Result<Vec<u8>, AllocError>
+    ensures { IfOk result (λ text. text.items ≡ compact_fault_text from base) }
+{
+    let mut out = Vec::new(alloc);
+    let words = [
+        Word::Number(from as u64),
+        Word::Plain(b"base"),
+        Word::Number(base as u64),
+    ];
+    put_line(&mut out, b"hyder: compact from", &words)?;
+    Ok(out)
+}
+
+/// The line for a stream that is refused: the place of its first field that is, and why.
+pub fn frame_line(alloc: Global, place: u64, why: &str) -> Result<Vec<u8>, AllocError>
+    ensures { IfOk result (λ text. text.items ≡ frame_fault_text place why.now) }
+{
+    let mut out = Vec::new(alloc);
+    let words = [Word::Number(place), Word::Plain(why.as_bytes())];
+    put_line(&mut out, b"hyder: frame at", &words)?;
+    Ok(out)
+}
+
+/// The line for a spare device that holds something already.
+pub fn spare_line() -> &'static [u8]
+    ensures { result.now ≡ spare_fault_text }
+{
+    b"hyder: spare in use\n"
+}
+
+/// The text of a copy: the base past which the log was copied, and how many entries.
+pub fn write_compact(alloc: Global, base: Pos, count: usize) -> Result<Vec<u8>, AllocError>
+    ensures { IfOk result (λ text. text.items ≡ compact_text base count) }
+{
+    let mut out = Vec::new(alloc);
+    let words = [
+        Word::Number(base as u64),
+        Word::Plain(b"entries"),
+        Word::Number(count as u64),
+    ];
+    put_line(&mut out, b"compact from", &words)?;
     Ok(out)
 }

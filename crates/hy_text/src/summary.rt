@@ -86,7 +86,7 @@ fn put_counts(
     put_line(out, b"entries", &left)
 }
 
-// The verdicts of each kind, and how many programs only read.
+// The commits, the aborts by the kind of conflict, and how many programs only read.
 fn put_verdicts(
     out: &mut Vec<u8>,
     verdicts: &[Option<Verdict>],
@@ -108,8 +108,9 @@ fn put_verdicts(
     put_line(out, b"commit", &words)
 }
 
-/// The summary of a load that was made of a seed and a size: its entries and the fillers among them, the verdicts of each
-/// kind with the number of programs that only read, and the number of rows that are live at the end of its log.
+/// The summary of a load that was made of a seed and a size: its entries and the fillers among them, the commits and the
+/// aborts by the kind of conflict with the number of programs that only read, and the number of rows that are live at the
+/// end of its log. An abort for an old snapshot isn't counted: the log of a load has no horizon.
 pub fn write_summary(
     alloc: Global,
     seed: u64,

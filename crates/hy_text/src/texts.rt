@@ -33,8 +33,9 @@ fn put_word(out: &mut Vec<u8>, word: Word<'_>) -> Result<(), AllocError>
 }
 
 // Adds each word after a space.
-fn put_words(out: &mut Vec<u8>, words: &[Word<'_>]) -> Result<(), AllocError>
-    ensures { OnOk result (out.new.items ≡ out.old.items ++ spaced words.now) }
+#[tactic(auto, unfolding(crate::specs::LineWords::spaced))]
+pub(crate) fn put_words(out: &mut Vec<u8>, words: &[Word<'_>]) -> Result<(), AllocError>
+    ensures { OnOk result (out.new.items ≡ out.old.items ++ spaced (map word_text words.now)) }
 {
     for word in words {
         out.push(b' ')?;
@@ -167,6 +168,15 @@ pub(crate) fn put_verdict(out: &mut Vec<u8>, pos: u64, verdict: Verdict) -> Resu
             let words = [Word::Number(pos), Word::Plain(b"commit")];
             put_line(out, b"at", &words)
         }
+        Verdict::Old { snap } => {
+            let words = [
+                Word::Number(pos),
+                Word::Plain(b"abort"),
+                Word::Plain(b"old"),
+                Word::Number(snap as u64),
+            ];
+            put_line(out, b"at", &words)
+        }
         Verdict::Pre(clash) => put_abort(out, pos, b"pre", clash),
         Verdict::Mate(clash) => put_abort(out, pos, b"mate", clash),
         Verdict::Final(clash) => put_abort(out, pos, b"final", clash),
@@ -181,6 +191,8 @@ fn put_outcome(out: &mut Vec<u8>, outcome: Outcome) -> Result<(), AllocError>
         Outcome::At { pos, verdict } => put_verdict(out, pos as u64, verdict),
         Outcome::Full => put_line(out, b"full", &[]),
         Outcome::Lost => put_line(out, b"lost", &[]),
+        Outcome::Past { from } => put_line(out, b"past", &[Word::Number(from as u64)]),
+        Outcome::NotYet { board } => put_line(out, b"notyet", &[Word::Number(board as u64)]),
     }
 }
 
@@ -284,7 +296,7 @@ pub fn write_report(alloc: Global, results: &Results) -> Result<Vec<u8>, AllocEr
 pub fn usage_line() -> &'static [u8]
     ensures { result.now ≡ usage_text }
 {
-    b"hyder: usage: run|sim|recover|check|load\n"
+    b"hyder: usage: run|sim|recover|check|load|compact|ship|follow\n"
 }
 
 /// The line for a source that failed.

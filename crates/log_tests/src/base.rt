@@ -12,31 +12,59 @@ const SHAPE: Shape = Shape {
     group: 2,
     window: 3,
     cap: 48,
+    version: 1,
+    horizon: None,
 };
 
 #[test]
 fn a_shape_names_its_first_bad_field(rt: HostRuntime) {
-    let rows: [(u8, u8, Pos, Option<(Field, Pos)>); 12] = [
-        (1, 1, 1, None),
-        (3, 5, 48, None),
-        (8, 64, 2147483648, None),
-        (0, 1, 8, Some((Field::Group, 0))),
-        (9, 0, 0, Some((Field::Group, 9))),
-        (1, 0, 8, Some((Field::Window, 0))),
-        (8, 65, 1, Some((Field::Window, 65))),
-        (1, 1, 0, Some((Field::Cap, 0))),
-        (8, 1, 7, Some((Field::Cap, 7))),
-        (3, 5, 49, Some((Field::Cap, 49))),
-        (1, 1, 2147483649, Some((Field::Cap, 2147483649))),
-        (5, 1, u32::MAX, Some((Field::Cap, 4294967295))),
+    type Found = Option<(Field, Pos)>;
+    let rows: [(u8, u8, Pos, u8, Option<Pos>, Found); 24] = [
+        (1, 1, 1, 1, None, None),
+        (3, 5, 48, 2, None, None),
+        (8, 64, 2147483648, 1, None, None),
+        (8, 64, 2147483648, 2, None, None),
+        (3, 5, 48, 3, Some(15), None),
+        (8, 64, 8, 3, Some(2147483648), None),
+        (0, 1, 8, 1, None, Some((Field::Group, 0))),
+        (9, 0, 0, 0, None, Some((Field::Group, 9))),
+        (1, 0, 8, 1, None, Some((Field::Window, 0))),
+        (8, 65, 1, 1, None, Some((Field::Window, 65))),
+        (1, 1, 0, 4, None, Some((Field::Cap, 0))),
+        (8, 1, 7, 1, None, Some((Field::Cap, 7))),
+        (3, 5, 49, 2, None, Some((Field::Cap, 49))),
+        (1, 1, 2147483649, 1, None, Some((Field::Cap, 2147483649))),
+        (5, 1, u32::MAX, 1, None, Some((Field::Cap, 4294967295))),
+        (1, 1, 1, 0, Some(0), Some((Field::Version, 0))),
+        (3, 5, 48, 4, Some(15), Some((Field::Version, 4))),
+        (8, 64, 8, 255, None, Some((Field::Version, 255))),
+        (3, 5, 48, 1, Some(15), Some((Field::Horizon, 15))),
+        (3, 5, 48, 2, Some(15), Some((Field::Horizon, 15))),
+        (3, 5, 48, 3, None, Some((Field::Horizon, 0))),
+        (3, 5, 48, 3, Some(14), Some((Field::Horizon, 14))),
+        (3, 5, 48, 3, Some(0), Some((Field::Horizon, 0))),
+        (
+            1,
+            1,
+            1,
+            3,
+            Some(2147483649),
+            Some((Field::Horizon, 2147483649)),
+        ),
     ];
-    for (group, window, cap, fault) in rows {
-        let shape = Shape { group, window, cap };
+    for (group, window, cap, version, horizon, fault) in rows {
+        let shape = Shape {
+            group,
+            window,
+            cap,
+            version,
+            horizon,
+        };
         let found = match shape.check() {
             Ok(()) => None,
             Err(BadShape { field, value }) => Some((field, value)),
         };
-        assert!(rt; found == fault, "at {group} {window} {cap}");
+        assert!(rt; found == fault, "at {group} {window} {cap} {version}");
     }
 }
 
@@ -80,6 +108,8 @@ fn faults_are_spelled(rt: HostRuntime) -> Result<(), Fail> {
         (Field::Group, "group is out of range: 9"),
         (Field::Window, "window is out of range: 9"),
         (Field::Cap, "cap is out of range: 9"),
+        (Field::Version, "version is out of range: 9"),
+        (Field::Horizon, "horizon is out of range: 9"),
     ];
     for (field, text) in rows {
         let fault = BadShape { field, value: 9 };

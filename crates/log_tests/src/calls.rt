@@ -2,13 +2,13 @@
 //! the batch and of memory is seen to as it runs: `None` where that isn't given.
 ghost use Rattle.std.specs.Prelude.{◌≡◌, ◌≤◌, length, IfOk, IfSome};
 ghost use Rattle.hy_base.specs.Shape.{IsGoodShape};
-ghost use Rattle.hy_formats.specs.LogFormat.{longest_body};
+ghost use Rattle.hy_formats.specs.LogFormat.{IsGoodHeader, longest_record};
 
 use crate::memory_device;
 use hy_base::{Pos, Shape};
 use hy_disk::{Disk, Failed, Tuned};
-use hy_formats::{BadPage, Damage, LONGEST_BODY};
-use hy_log::{AddError, AppendError, OpenError, PageLog, RefusedLog, open_log};
+use hy_formats::{BadPage, Damage, LONGEST_RECORD, longest_body};
+use hy_log::{AddError, AppendError, OpenError, PageLog, RefusedLog, open_cut, open_log};
 use hy_mem::MemDisk;
 use std::alloc::{AllocError, Global};
 use std::test::Fail;
@@ -18,11 +18,27 @@ pub const PUT: [u8; 22] = [
     1, 1, 1, 0, 0, 0, 0, 0, 0, 1, 1, 0, 0, 0, 0, 0, 0, 0, 1, 1, 0, b'a',
 ];
 
-/// Groups of one, and at most sixteen entries.
+/// The same put in version 2.
+pub const PUT_2: [u8; 23] = [
+    1, 1, 1, 0, 0, 0, 0, 0, 0, 0, 1, 1, 0, 0, 0, 0, 0, 0, 0, 1, 1, 0, b'a',
+];
+
+/// Groups of one, and at most sixteen entries, in version 1.
 pub const SHAPE: Shape = Shape {
     group: 1,
     window: 1,
     cap: 16,
+    version: 1,
+    horizon: None,
+};
+
+/// The same in version 2.
+pub const SHAPE_2: Shape = Shape {
+    group: 1,
+    window: 1,
+    cap: 16,
+    version: 2,
+    horizon: None,
 };
 
 /// The device of a log of that shape with so many one-page records of the put, at most nine, all but the first behind open
@@ -36,6 +52,15 @@ pub fn records(gate: u8, count: usize) -> [u8; 2817] {
         bytes[at + 5..at + 27].copy_from_slice(&PUT);
     }
     bytes[256] = gate;
+    bytes
+}
+
+/// The device of a log of version 2 with the put alone.
+pub fn one_put_2() -> [u8; 513] {
+    let mut bytes = [0; 513];
+    bytes[..16].copy_from_slice(b"GHYDERLOG\x02\x01\x01\x10\0\0\0");
+    bytes[256..261].copy_from_slice(&[0x47, 23, 0, 0, 0]);
+    bytes[261..284].copy_from_slice(&PUT_2);
     bytes
 }
 
@@ -106,6 +131,23 @@ pub fn empty_log(alloc: Global, shape: Shape) -> Result<PageLog<MemDisk>, Fail>
     log_on(alloc, MemDisk::new(alloc, &[], &[])?, shape)
 }
 
+/// The log on a device, which is given room for a few appends. An unborn one gets the header of a log that was cut.
+pub fn cut_log_on(
+    alloc: Global,
+    disk: MemDisk,
+    shape: Shape,
+    from: Pos,
+) -> Result<PageLog<MemDisk>, Fail>
+    requires { IsGoodHeader (record { shape = shape; from = from }) }
+{
+    let mut disk = disk;
+    give_room(&mut disk)?;
+    match open_cut(alloc, disk, shape, from) {
+        Ok(log) => Ok(log),
+        Err(_) => Err("not opened")?,
+    }
+}
+
 /// The device of a log.
 pub fn close<D: Disk>(log: PageLog<D>) -> D {
     log.close()
@@ -127,7 +169,8 @@ pub fn arm(log: &mut PageLog<MemDisk>, k: u64)
 
 /// Appends a body.
 pub fn append<D: Disk>(log: &mut PageLog<D>, body: &[u8]) -> Option<Result<Pos, AppendError>> {
-    if body.is_empty() || body.len() > LONGEST_BODY || log.batch_len() > 0 {
+    let longest = longest_body(log.shape().version);
+    if body.is_empty() || body.len() > longest || log.batch_len() > 0 {
         return None;
     }
     log.reserve(1).ok()?;
@@ -136,7 +179,8 @@ pub fn append<D: Disk>(log: &mut PageLog<D>, body: &[u8]) -> Option<Result<Pos, 
 
 /// Puts a body into the batch.
 pub fn add<D: Disk>(log: &mut PageLog<D>, body: &[u8]) -> Option<Result<(), AddError>> {
-    if body.is_empty() || body.len() > LONGEST_BODY || log.batch_len() > 7 {
+    let longest = longest_body(log.shape().version);
+    if body.is_empty() || body.len() > longest || log.batch_len() > 7 {
         return None;
     }
     log.reserve(1).ok()?;
@@ -151,16 +195,16 @@ pub fn flush<D: Disk>(log: &mut PageLog<D>) -> Option<Result<Pos, Failed>> {
     Some(log.flush())
 }
 
-// Zeros, in number the most bytes of a body, 18,634. `AllocError` where memory runs out.
+// Zeros, in number the most bytes of a record. `AllocError` where memory runs out.
 fn body_buffer(alloc: Global) -> Result<Vec<u8>, AllocError>
-    ensures { IfOk result (λ bytes. length bytes.items ≡ longest_body) }
+    ensures { IfOk result (λ bytes. length bytes.items ≡ longest_record) }
 {
-    vec![in alloc; 0; LONGEST_BODY]
+    vec![in alloc; 0; LONGEST_RECORD]
 }
 
 /// Whether this body is read at a position.
 pub fn reads<D: Disk>(alloc: Global, log: &mut PageLog<D>, pos: Pos, body: &[u8]) -> bool {
-    if pos == 0 || pos > log.len() {
+    if pos <= log.from() || pos > log.len() {
         return false;
     }
     let Ok(mut buffer) = body_buffer(alloc) else {

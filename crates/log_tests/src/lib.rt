@@ -13,6 +13,8 @@ mod calls;
 #[cfg(test)]
 mod codec;
 #[cfg(test)]
+mod cut_logs;
+#[cfg(test)]
 mod damaged_devices;
 #[cfg(test)]
 mod entries;
@@ -32,6 +34,8 @@ mod log_on_file;
 mod memory_device;
 #[cfg(test)]
 mod pages;
+#[cfg(test)]
+mod pipelines;
 #[cfg(test)]
 mod point_format;
 #[cfg(test)]

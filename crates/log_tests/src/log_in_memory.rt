@@ -2,7 +2,8 @@
 ghost use Rattle.std.specs.Prelude.{◌≤◌};
 
 use crate::calls::{
-    PUT, SHAPE, append, arm, close, device, empty_log, front, log_on, look, reads, records, stop,
+    PUT, PUT_2, SHAPE, SHAPE_2, append, arm, close, device, empty_log, front, log_on, look,
+    one_put_2, reads, records, stop,
 };
 use hy_base::{Field, Shape};
 use hy_log::{AppendError, OpenError, PageLog};
@@ -10,10 +11,30 @@ use hy_mem::MemDisk;
 use std::alloc::Global;
 use std::test::Fail;
 
+// Of version 3, with a horizon.
+const SHAPE_3: Shape = Shape {
+    group: 1,
+    window: 1,
+    cap: 16,
+    version: 3,
+    horizon: Some(2),
+};
+
+// The same with another horizon.
+const LONGER: Shape = Shape {
+    group: 1,
+    window: 1,
+    cap: 16,
+    version: 3,
+    horizon: Some(3),
+};
+
 const SMALL: Shape = Shape {
     group: 1,
     window: 1,
     cap: 1,
+    version: 1,
+    horizon: None,
 };
 
 #[test]
@@ -22,6 +43,82 @@ fn one_put_takes_a_header_a_page_and_a_gate(rt: HostRuntime) -> Result<(), Fail>
     assert!(rt; append(&mut log, &PUT) == Some(Ok(1)));
     let wanted = records(0x47, 1);
     assert!(rt; close(log).bytes() == front(&wanted, 513));
+    Ok(())
+}
+
+#[test]
+fn one_put_of_version_2(rt: HostRuntime) -> Result<(), Fail> {
+    let alloc = rt.alloc();
+    let mut log = empty_log(alloc, SHAPE_2)?;
+    assert!(rt; append(&mut log, &PUT_2) == Some(Ok(1)));
+    assert!(rt; reads(alloc, &mut log, 1, &PUT_2));
+    let disk = close(log);
+    let wanted = one_put_2();
+    assert!(rt; disk.bytes() == wanted.as_slice());
+    let other = look(alloc, disk, Some(SHAPE));
+    assert!(rt;
+        other
+            == Err(OpenError::Config {
+                field: Field::Version,
+                log: 2,
+                asked: 1,
+            })
+    );
+    Ok(())
+}
+
+// Entries of version 3 are spelled as those of version 2.
+#[test]
+fn a_log_keeps_its_horizon(rt: HostRuntime) -> Result<(), Fail> {
+    let alloc = rt.alloc();
+    let mut log = empty_log(alloc, SHAPE_3)?;
+    assert!(rt; append(&mut log, &PUT_2) == Some(Ok(1)));
+    let disk = close(log);
+    let head = b"GHYDERLOG\x03\x01\x01\x10\0\0\0\x02\0\0\0\0";
+    assert!(rt; disk.bytes().starts_with(head));
+    let other = look(alloc, disk, Some(LONGER));
+    assert!(rt;
+        other
+            == Err(OpenError::Config {
+                field: Field::Horizon,
+                log: 2,
+                asked: 3,
+            })
+    );
+    let version = look(alloc, close(empty_log(alloc, SHAPE_2)?), Some(SHAPE_3));
+    assert!(rt;
+        version
+            == Err(OpenError::Config {
+                field: Field::Version,
+                log: 2,
+                asked: 3,
+            })
+    );
+    let again = log_on(alloc, close(empty_log(alloc, SHAPE_3)?), SHAPE_3)?;
+    assert!(rt; again.len() == 0);
+    drop(again);
+    Ok(())
+}
+
+// The most bytes of a body, and one more, in each version.
+#[test]
+fn the_longest_body_goes_by_the_version(rt: HostRuntime) -> Result<(), Fail> {
+    let alloc = rt.alloc();
+    for (shape, size, fits) in [
+        (SHAPE, 18634, true),
+        (SHAPE, 18635, false),
+        (SHAPE_2, 18635, true),
+        (SHAPE_2, 18636, false),
+        (SHAPE_3, 18635, true),
+        (SHAPE_3, 18636, false),
+    ] {
+        let mut log = empty_log(alloc, shape)?;
+        log.room(18689, 4)?;
+        let body = vec![in alloc; b'x'; size]?;
+        let taken = append(&mut log, &body).is_some();
+        drop(log);
+        assert!(rt; taken == fits, "{size} bytes");
+    }
     Ok(())
 }
 

@@ -3,7 +3,7 @@ ghost use Rattle.std.specs.Prelude.{◌≤◌, length};
 
 use crate::calls::PUT;
 use hy_base::Shape;
-use hy_formats::Damage;
+use hy_formats::{Damage, Header};
 use hy_pages::{
     are_zeros, fill_page, header_of, is_unborn, pages_of, read_gate, read_header, read_len,
 };
@@ -15,7 +15,37 @@ const SHAPE: Shape = Shape {
     group: 1,
     window: 1,
     cap: 8,
+    version: 1,
+    horizon: None,
 };
+
+// The same in version 2.
+const SHAPE_2: Shape = Shape {
+    group: 1,
+    window: 1,
+    cap: 8,
+    version: 2,
+    horizon: None,
+};
+
+// The same in version 3.
+const SHAPE_3: Shape = Shape {
+    group: 1,
+    window: 1,
+    cap: 8,
+    version: 3,
+    horizon: Some(258),
+};
+
+// The header of a log that was cut at its second position.
+const CUT: Header = Header {
+    shape: SHAPE,
+    from: 2,
+};
+
+fn plain(shape: Shape) -> [u8; 256] {
+    header_of(Header::uncut(shape))
+}
 
 // Whether a page begins with these bytes, and is 0 behind them.
 fn is_padded(page: &[u8], bytes: &[u8]) -> bool {
@@ -24,7 +54,18 @@ fn is_padded(page: &[u8], bytes: &[u8]) -> bool {
 
 #[test]
 fn writes_a_log_of_one_put(rt: HostRuntime) {
-    assert!(rt; is_padded(&header_of(SHAPE), b"GHYDERLOG\x01\x01\x01\x08"));
+    assert!(rt; is_padded(&plain(SHAPE), b"GHYDERLOG\x01\x01\x01\x08"));
+    assert!(rt; is_padded(&plain(SHAPE_2), b"GHYDERLOG\x02\x01\x01\x08"));
+    let third = b"GHYDERLOG\x03\x01\x01\x08\0\0\0\x02\x01";
+    assert!(rt; is_padded(&plain(SHAPE_3), third));
+    let cut = b"GHYDERCUT\x01\x01\x01\x08\0\0\0\0\0\0\0\x02";
+    assert!(rt; is_padded(&header_of(CUT), cut));
+    let late = Header {
+        shape: SHAPE_3,
+        from: 8,
+    };
+    let both = b"GHYDERCUT\x03\x01\x01\x08\0\0\0\x02\x01\0\0\x08";
+    assert!(rt; is_padded(&header_of(late), both) && read_header(&header_of(late)) == Ok(late));
     let mut rest = [0xff; 256];
     fill_page(&PUT, &mut rest);
     assert!(rt; has_body(&rest, [22, 0, 0, 0], &PUT));
@@ -33,7 +74,7 @@ fn writes_a_log_of_one_put(rt: HostRuntime) {
 // The pages of a body, over what an older record left there.
 fn filled(alloc: Global, body: &[u8]) -> Result<Vec<u8>, AllocError>
     requires some { 1 ≤ length body.now }
-    requires most { length body.now ≤ 18634 }
+    requires most { length body.now ≤ 18635 }
 {
     let mut rest = vec![in alloc; 0xff; 256 * pages_of(body.len())]?;
     fill_page(body, &mut rest);
@@ -52,7 +93,7 @@ fn check_record(
     pages: usize,
     word: [u8; 4],
 ) -> Result<(), Fail> {
-    assert!(rt; len >= 1 && len <= 18634);
+    assert!(rt; len >= 1 && len <= 18635);
     let body = vec![in alloc; b'x'; len]?;
     let rest = filled(alloc, &body)?;
     assert!(rt; pages_of(len) == pages);
@@ -72,6 +113,7 @@ fn records_take_whole_pages(rt: HostRuntime) -> Result<(), Fail> {
         (18427, 72, [251, 71, 0, 0]),
         (18428, 73, [252, 71, 0, 0]),
         (18634, 73, [202, 72, 0, 0]),
+        (18635, 73, [203, 72, 0, 0]),
     ];
     for (len, pages, word) in rows {
         check_record(&rt, rt.alloc(), len, pages, word)?;
@@ -81,7 +123,11 @@ fn records_take_whole_pages(rt: HostRuntime) -> Result<(), Fail> {
 
 // The header with bytes changed at some places.
 fn damaged(changes: &[(usize, u8)]) -> [u8; 256] {
-    let mut page = header_of(SHAPE);
+    changed(plain(SHAPE), changes)
+}
+
+fn changed(page: [u8; 256], changes: &[(usize, u8)]) -> [u8; 256] {
+    let mut page = page;
     for (place, byte) in changes {
         page[*place % 256] = *byte;
     }
@@ -89,19 +135,28 @@ fn damaged(changes: &[(usize, u8)]) -> [u8; 256] {
 }
 
 // What the front of the header tells.
-fn read_cut(size: usize) -> Result<Shape, Damage> {
-    read_header(&header_of(SHAPE)[..size.min(256)])
+fn read_front(size: usize) -> Result<Header, Damage> {
+    read_header(&plain(SHAPE)[..size.min(256)])
 }
 
 #[test]
 fn headers_are_refused(rt: HostRuntime) {
-    let rows: [(&[(usize, u8)], Damage); 17] = [
+    let rows: [(&[(usize, u8)], Damage); 27] = [
         (&[(0, 0)], Damage::Gate),
         (&[(0, 0x46), (1, 0)], Damage::Gate),
         (&[(1, b'h')], Damage::Magic),
-        (&[(8, b'H'), (9, 2)], Damage::Magic),
+        (&[(8, b'H'), (9, 4)], Damage::Magic),
         (&[(9, 0)], Damage::Version),
-        (&[(9, 2), (10, 9)], Damage::Version),
+        (&[(9, 4), (10, 9)], Damage::Version),
+        (&[(9, 2), (10, 9)], Damage::Shape),
+        (&[(9, 2), (16, 1)], Damage::Fill),
+        (&[(9, 2), (19, 1)], Damage::Fill),
+        (&[(9, 3)], Damage::Shape),
+        (&[(9, 3), (20, 1)], Damage::Shape),
+        (&[(9, 3), (11, 3), (16, 2)], Damage::Shape),
+        (&[(9, 3), (16, 1), (19, 0x80)], Damage::Shape),
+        (&[(9, 3), (11, 3), (16, 3), (20, 1)], Damage::Fill),
+        (&[(9, 3), (16, 1), (255, 1)], Damage::Fill),
         (&[(10, 0)], Damage::Shape),
         (&[(10, 3)], Damage::Shape),
         (&[(10, 9)], Damage::Shape),
@@ -111,25 +166,58 @@ fn headers_are_refused(rt: HostRuntime) {
         (&[(15, 0x80)], Damage::Shape),
         (&[(10, 9), (16, 1)], Damage::Shape),
         (&[(16, 1)], Damage::Fill),
+        (&[(19, 1)], Damage::Fill),
         (&[(100, 1)], Damage::Fill),
         (&[(255, 1)], Damage::Fill),
     ];
     for (changes, why) in rows {
         assert!(rt; read_header(&damaged(changes)) == Err(why));
     }
+    assert!(rt; read_header(&damaged(&[(9, 2)])) == Ok(Header::uncut(SHAPE_2)));
+    let third = damaged(&[(9, 3), (16, 2), (17, 1)]);
+    assert!(rt; read_header(&third) == Ok(Header::uncut(SHAPE_3)));
     for (size, wanted) in [
-        (256, Ok(SHAPE)),
+        (256, Ok(Header::uncut(SHAPE))),
         (255, Err(Damage::Short)),
         (0, Err(Damage::Gate)),
     ] {
-        assert!(rt; read_cut(size) == wanted);
+        assert!(rt; read_front(size) == wanted);
     }
+}
+
+#[test]
+fn headers_of_cut_logs_are_refused(rt: HostRuntime) {
+    let rows: [(&[(usize, u8)], Damage); 14] = [
+        (&[(0, 0)], Damage::Gate),
+        (&[(8, b'G')], Damage::Magic),
+        (&[(9, 4), (20, 0)], Damage::Version),
+        (&[(20, 0)], Damage::Shape),
+        (&[(20, 9)], Damage::Shape),
+        (&[(21, 1)], Damage::Shape),
+        (&[(23, 0x80)], Damage::Shape),
+        (&[(11, 3)], Damage::Shape),
+        (&[(10, 2), (11, 2)], Damage::Shape),
+        (&[(10, 9), (24, 1)], Damage::Shape),
+        (&[(16, 1)], Damage::Fill),
+        (&[(9, 2), (19, 1)], Damage::Fill),
+        (&[(24, 1)], Damage::Fill),
+        (&[(255, 1)], Damage::Fill),
+    ];
+    let page = header_of(CUT);
+    for (changes, why) in rows {
+        assert!(rt; read_header(&changed(page, changes)) == Err(why));
+    }
+    assert!(rt; read_header(&page) == Ok(CUT));
+    let last = changed(page, &[(10, 2), (20, 8)]);
+    assert!(rt; read_header(&last).is_ok());
+    let plain = damaged(&[(20, 2)]);
+    assert!(rt; read_header(&plain) == Err(Damage::Fill));
 }
 
 // Whether a device is unborn that has a header with this gate, this byte behind the header, and so many bytes.
 fn is_torn(gate: u8, next: u8, size: usize) -> bool {
     let mut bytes = [0; 300];
-    bytes[..256].copy_from_slice(&header_of(SHAPE));
+    bytes[..256].copy_from_slice(&plain(SHAPE));
     bytes[0] = gate;
     bytes[256] = next;
     is_unborn(&bytes[..size.min(300)])

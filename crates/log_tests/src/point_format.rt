@@ -13,6 +13,8 @@ pub const TWO_BY_TWO: Shape = Shape {
     group: 2,
     window: 2,
     cap: 8,
+    version: 1,
+    horizon: None,
 };
 
 /// Groups of one, windows of one.
@@ -20,6 +22,26 @@ pub const ONE_BY_ONE: Shape = Shape {
     group: 1,
     window: 1,
     cap: 8,
+    version: 1,
+    horizon: None,
+};
+
+// The same with a horizon of one position.
+const NEAR: Shape = Shape {
+    group: 1,
+    window: 1,
+    cap: 8,
+    version: 3,
+    horizon: Some(1),
+};
+
+// And of two.
+const FAR: Shape = Shape {
+    group: 1,
+    window: 1,
+    cap: 8,
+    version: 3,
+    horizon: Some(2),
 };
 
 // A point at position 2 without rows: a commit, and a filler.
@@ -172,4 +194,20 @@ fn damage_in_rows_is_named(rt: HostRuntime) {
         let found = refusal(rt.alloc(), &changed(&ROWS, place, byte), ONE_BY_ONE);
         assert_eq!(rt; found, Some((at, damage)));
     }
+}
+
+// A deletion at or below the line of the base is refused at its writer, once its tag is read. The line of base 2 is 1 with
+// the nearer horizon, and 0 with the other. An old row with a value stays.
+#[test]
+fn an_old_deletion_is_refused(rt: HostRuntime) {
+    let alloc = rt.alloc();
+    let rows = page(&ROWS);
+    assert_eq!(rt; refusal(alloc, &rows, NEAR), Some((35, Damage::Writer)));
+    assert_eq!(rt; refusal(alloc, &rows, FAR), None);
+    let bad_tag = changed(&ROWS, 39, 2);
+    assert_eq!(rt; refusal(alloc, &bad_tag, NEAR), Some((39, Damage::Tag)));
+    let later = changed(&ROWS, 35, 2);
+    assert_eq!(rt; refusal(alloc, &later, NEAR), None);
+    let old_value = changed(&later, 48, 1);
+    assert_eq!(rt; refusal(alloc, &old_value, NEAR), None);
 }

@@ -1,9 +1,9 @@
 //! The plain fold, on logs of a few sums.
-ghost use Rattle.std.specs.Prelude.{ℕ, IfOk};
+ghost use Rattle.std.specs.Prelude.{ℕ, None, IfOk};
 ghost use Rattle.hy_base.specs.Limits.{IsClientNumber};
 ghost use Rattle.hy_base.specs.Log.{HasLawfulSnap};
 
-use hy_base::{Clash, Entry, Intention, Items, Shape, Value, Verdict, Write};
+use hy_base::{Clash, Entry, Intention, Isolation, Items, Shape, Value, Verdict, Write};
 use hy_rules::{Folded, plain_fold};
 use std::alloc::Global;
 use std::test::Fail;
@@ -11,12 +11,13 @@ use std::test::Fail;
 // What adding 1 to key 7 leaves, on the empty snapshot.
 fn sum(alloc: Global, client: u8) -> Result<Entry, Fail>
     requires { IsClientNumber client }
-    ensures { IfOk result (λ e. (pos : ℕ) → HasLawfulSnap (record { group = 1; window = 1; cap = 8 }) pos e) }
+    ensures { IfOk result (λ e. (pos : ℕ) → HasLawfulSnap (record { group = 1; window = 1; cap = 8; version = 1; horizon = None }) pos e) }
 {
     let value = Value::new(vec![in alloc; b'1']?).ok();
     Ok(Entry::transaction(Intention {
         server: 1,
         client,
+        isolation: Isolation::Serializable,
         snap: 0,
         points: Items::from_vec(vec![in alloc; 7]?),
         spans: Items::new(alloc),
@@ -33,6 +34,8 @@ fn three_sums(alloc: Global) -> Result<Folded, Fail> {
         group: 1,
         window: 1,
         cap: 8,
+        version: 1,
+        horizon: None,
     };
     let folded = plain_fold(alloc, &entries, shape);
     drop(entries);

@@ -15,8 +15,8 @@ use std::alloc::{AllocError, Global};
 use std::test::Fail;
 use std::thread::Threads;
 
-// The log's third entry is saved as a flag, and the first two by their rows: key 4 deleted at 2, and "a" at key 9 by 1.
-const THREE_ENTRIES: [u8; 57] = [
+/// The log's third entry is saved as a flag, and the first two by their rows: key 4 deleted at 2, and "a" at key 9 by 1.
+pub const THREE_ENTRIES: [u8; 57] = [
     0x47, 48, 0, 0, 0, 0, 0, 0, 0, // the gate and the length of the body
     1, 1, 3, 0, 0, 0, 2, 0, 0, 0, // group size, window, position, base
     2, 0, 0, 0, 0, 0, 0, 0, // two rows

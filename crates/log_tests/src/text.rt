@@ -2,7 +2,10 @@
 ghost use Rattle.std.specs.Prelude.{◌≡◌, None};
 
 use crate::entries::{letter, one_write};
-use hy_base::{Clash, Entry, Intention, Items, Row, Shape, Shared, Span, Verdict, Write};
+use hy_base::{
+    Clash, Entry, Intention, Isolation, Items, Pos, Row, Shape, Shared, Span, Verdict, Write,
+};
+use hy_formats::Header;
 use hy_text::{memory_line, page_line, write_check, write_dump, write_summary};
 use std::alloc::{AllocError, Global};
 use std::test::Fail;
@@ -19,6 +22,7 @@ fn three_deletes(alloc: Global) -> Result<Entry, Fail> {
     Ok(Entry::transaction(Intention {
         server: 8,
         client: 128,
+        isolation: Isolation::Serializable,
         snap: 7,
         points: Items::from_vec(vec![in alloc; 5]?),
         spans: Items::from_vec(spans),
@@ -37,6 +41,8 @@ const SHAPE: Shape = Shape {
     group: 2,
     window: 3,
     cap: 64,
+    version: 1,
+    horizon: None,
 };
 
 fn three_entries(alloc: Global) -> Result<Vec<Entry>, Fail> {
@@ -45,19 +51,56 @@ fn three_entries(alloc: Global) -> Result<Vec<Entry>, Fail> {
     Ok(vec![in alloc; first, Entry::filler(4), last]?)
 }
 
-fn dump_of_three(alloc: Global) -> Result<Vec<u8>, Fail> {
+// The dump of these entries in a log of a version that was cut at a position.
+fn dump_of_three(
+    alloc: Global,
+    version: u8,
+    horizon: Option<Pos>,
+    from: Pos,
+) -> Result<Vec<u8>, Fail> {
     let entries = three_entries(alloc)?;
-    let dump = write_dump(alloc, Some(SHAPE), &entries);
+    let shape = Shape {
+        version,
+        horizon,
+        ..SHAPE
+    };
+    let dump = write_dump(alloc, Some(Header { shape, from }), &entries);
     drop(entries);
     Ok(dump?)
 }
 
 #[test]
 fn a_log_with_an_open_group_is_dumped(rt: HostRuntime) -> Result<(), Fail> {
-    let dump = dump_of_three(rt.alloc())?;
-    let wanted =
-        "log group 2 window 3 cap 64 entries 3\nentry 1 server 8 client 128 snap 7 points 1 spans 2 writes 3\nentry 2 server 4 filler\nentry 3 server 1 client 1 snap 0 points 0 spans 0 writes 1\n".as_bytes();
-    assert!(rt; dump.as_slice() == wanted);
+    let rows = [
+        (
+            1,
+            None,
+            0,
+            "log group 2 window 3 cap 64 entries 3\nentry 1 server 8 client 128 snap 7 points 1 spans 2 writes 3\nentry 2 server 4 filler\nentry 3 server 1 client 1 snap 0 points 0 spans 0 writes 1\n",
+        ),
+        (
+            2,
+            None,
+            0,
+            "log group 2 window 3 cap 64 version 2 entries 3\nentry 1 server 8 client 128 snap 7 points 1 spans 2 writes 3 iso 0\nentry 2 server 4 filler\nentry 3 server 1 client 1 snap 0 points 0 spans 0 writes 1 iso 0\n",
+        ),
+        (
+            3,
+            Some(2147483648),
+            0,
+            "log group 2 window 3 cap 64 version 3 horizon 2147483648 entries 3\nentry 1 server 8 client 128 snap 7 points 1 spans 2 writes 3 iso 0\nentry 2 server 4 filler\nentry 3 server 1 client 1 snap 0 points 0 spans 0 writes 1 iso 0\n",
+        ),
+        (
+            1,
+            None,
+            12,
+            "log group 2 window 3 cap 64 from 12 entries 3\nentry 13 server 8 client 128 snap 7 points 1 spans 2 writes 3\nentry 14 server 4 filler\nentry 15 server 1 client 1 snap 0 points 0 spans 0 writes 1\n",
+        ),
+    ];
+    for (version, horizon, from, wanted) in rows {
+        let dump = dump_of_three(rt.alloc(), version, horizon, from)?;
+        assert!(rt; dump.as_slice() == wanted.as_bytes(), "version {version}");
+    }
     Ok(())
 }
 
@@ -67,10 +110,20 @@ fn check_of_three(alloc: Global, verdicts: &[Option<Verdict>]) -> Result<Vec<u8>
 
 #[test]
 fn an_open_group_waits(rt: HostRuntime) -> Result<(), Fail> {
-    let refused = Some(Verdict::Pre(Clash { key: 1, by: 7 }));
-    let check = check_of_three(rt.alloc(), &[refused, None])?;
-    let wanted = "at 1 abort pre 1 by 7\nat 2 filler\nat 3 waits\nstate 2 rows 0\n".as_bytes();
-    assert!(rt; check.as_slice() == wanted);
+    let rows = [
+        (
+            Verdict::Pre(Clash { key: 1, by: 7 }),
+            "at 1 abort pre 1 by 7\nat 2 filler\nat 3 waits\nstate 2 rows 0\n",
+        ),
+        (
+            Verdict::Old { snap: 2147483640 },
+            "at 1 abort old 2147483640\nat 2 filler\nat 3 waits\nstate 2 rows 0\n",
+        ),
+    ];
+    for (verdict, wanted) in rows {
+        let check = check_of_three(rt.alloc(), &[Some(verdict), None])?;
+        assert!(rt; check.as_slice() == wanted.as_bytes());
+    }
     Ok(())
 }
 

@@ -1,7 +1,7 @@
 -- The desk of the tests, with one more mark.
 use Rattle.std.proofs.Common.{◌≡◌, ◌⊎◌, ◌↔◌, ℕ, suc, ◌+◌, List, [], ◌∷◌, ◌++◌, length, Option, Some, None, IfSome, refl, ap, ◌∙◌, subst, inr, arith, length-append}
 use Rattle.std.specs.Prelude.{not, slice_get}
-use Rattle.hy_hist.specs.Passes.{Known, Makes, made}
+use Rattle.hy_hist.specs.Passes.{Known, Makes, made, WaitByClaim}
 use Rattle.hy_hist.specs.Turns.{Turns}
 use Rattle.run_tests.specs.Desk.{is_away, moves, Counts, CountsAt}
 use Rattle.hy_hist.proofs.Turned.{makes_last}
@@ -33,3 +33,7 @@ one_more old new number (Some k) t =
     let done : (k ≡ length t.before) × (t.added ≡ Some number ∷ []) = subst (λ m. Counts number t.before t.added m) t.done.0 t.done.1 in
     let last = makes_last old new (CountsAt number (Some k)) t (Some number) (t.done.0 ∙ ap Some done.0) done.1 in
     omega (arith, ap length last, length-append (made old) ((length t.before, Some number) ∷ []))
+
+-- nobody waits at the desk
+pub none_wait : (before : List ℕ) (claimed claim : Option ℕ) → WaitByClaim before claimed claim []
+none_wait before claimed claim = record { each = λ n among. absurd among }

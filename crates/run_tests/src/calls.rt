@@ -51,24 +51,29 @@ pub fn ensured<T: Drop>(value: T, holds: bool, why: &'static str) -> Result<T, F
     }
 }
 
-/// A call over two devices, with this source, sink and gate.
+/// A call over the devices of a log, its point and a copy, with this source, sink and gate.
 pub fn call_on<R: Threads + Wait + Sync, D: Disk + Drop + Send, G: Gate + Sync>(
     rt: &R,
     alloc: Global,
     asked: &[&str],
     source: &mut MemSource,
     sink: &mut MemSink,
-    devices: (D, D),
+    devices: (D, D, D),
     gate: &G,
 ) -> Result<Done<D>, Fail> {
     let words = words_of(alloc, asked)?;
-    let (log, points) = devices;
-    let done = hyder_call(rt, alloc, &words, source, sink, log, points, gate);
+    let (log, points, spare) = devices;
+    let done = hyder_call(rt, alloc, &words, source, sink, log, points, spare, gate);
     drop(words);
     Ok(done)
 }
 
-/// A call over a log in memory, with this source, sink and gate, which leaves the other device alone.
+/// A device that fails at its first call.
+pub fn untouched(alloc: Global) -> Result<MemDisk, Fail> {
+    Ok(MemDisk::new(alloc, b"untouched", &[1])?)
+}
+
+/// A call over a log in memory, with this source, sink and gate, which leaves the other devices alone.
 pub fn call<R: Threads + Wait + Sync, G: Gate + Sync>(
     rt: &R,
     alloc: Global,
@@ -78,10 +83,10 @@ pub fn call<R: Threads + Wait + Sync, G: Gate + Sync>(
     log: MemDisk,
     gate: &G,
 ) -> Result<Done<MemDisk>, Fail> {
-    let points = MemDisk::new(alloc, b"points", &[1])?;
-    let done = call_on(rt, alloc, asked, source, sink, (log, points), gate)?;
-    let is_unused = done.points.faults() == 0;
-    ensured(done, is_unused, "the other device was used")
+    let devices = (log, untouched(alloc)?, untouched(alloc)?);
+    let done = call_on(rt, alloc, asked, source, sink, devices, gate)?;
+    let is_unused = done.points.faults() == 0 && done.spare.faults() == 0;
+    ensured(done, is_unused, "another device was used")
 }
 
 /// A call over a log, with a source and a sink that don't fail.

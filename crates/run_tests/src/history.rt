@@ -1,5 +1,5 @@
 //! A small user of the lock: it meets each condition, on one thread and on two.
-ghost use Rattle.std.specs.Prelude.{◌≡◌, [], ◌+◌, ◌<◌, ◌^◌, length, true, false, Some, IfSome, IfNone, OnOk, OnErr, slice_get};
+ghost use Rattle.std.specs.Prelude.{◌≡◌, [], ◌+◌, ◌<◌, ◌^◌, length, true, false, Some, None, IfSome, IfNone, OnOk, OnErr, slice_get};
 ghost use mathlib.Core.List.{IsPrefix};
 ghost use Rattle.run_tests.specs.Desk.{is_away, moves, CountsAt, IsReady};
 ghost use Rattle.hy_hist.specs.Passes.{made, Makes};
@@ -36,9 +36,12 @@ impl Guarded for Desk {
 
     type Part = u64;
 
+    ghost use Rattle.std.specs.Prelude.{[]};
     ghost use Rattle.run_tests.specs.Desk.{is_away, moves};
 
     ghost items = { λ d. d };
+
+    ghost waiting = { λ d. [] };
 
     ghost out = { is_away };
 
@@ -105,7 +108,7 @@ fn count<R: Wait>(rt: &R, lock: &HistLock<Desk>, pass: &mut Pass<Desk>, number: 
 {
     let mut desk = lock.hold(rt, pass);
     let place = desk.add(number);
-    lock.give(pass, desk, place);
+    lock.give(pass, desk, place, None);
     place
 }
 
@@ -132,26 +135,26 @@ fn count_often<R: Wait>(
 /// Takes the tool in a turn, where it is there, and carries it from then on.
 fn lift<R: Wait>(rt: &R, lock: &HistLock<Desk>, pass: &mut Pass<Desk>) -> Option<u64>
     requires { IsReady lock.now pass.old }
-    ensures kept { (pass.new.lock ≡ pass.old.lock) × (pass.new.holds ≡ false) × (pass.new.parts ≡ pass.old.parts) }
+    ensures kept { (pass.new.lock ≡ pass.old.lock) × (pass.new.holds ≡ false) × (pass.new.parts ≡ pass.old.parts) × (pass.new.claim ≡ None) }
     ensures lifted { IfSome result (λ _. pass.new.carries ≡ true) }
     ensures none { IfNone result (pass.new.carries ≡ false) }
 {
     let mut desk = lock.hold(rt, pass);
     let tool = desk.lift();
-    lock.give(pass, desk, None);
+    lock.give(pass, desk, None, None);
     tool
 }
 
 /// Brings the tool back in a turn. It is still away, since no other pass can have moved it.
 fn land<R: Wait>(rt: &R, lock: &HistLock<Desk>, pass: &mut Pass<Desk>, tool: u64) -> Result<(), u64>
-    requires { (pass.old.lock ≡ lock.now.name) × (pass.old.holds ≡ false) × (pass.old.carries ≡ true) }
-    ensures kept { (pass.new.lock ≡ pass.old.lock) × (pass.new.holds ≡ false) × (pass.new.parts ≡ pass.old.parts) }
+    requires { (pass.old.lock ≡ lock.now.name) × (pass.old.holds ≡ false) × (pass.old.carries ≡ true) × (pass.old.claim ≡ None) }
+    ensures kept { (pass.new.lock ≡ pass.old.lock) × (pass.new.holds ≡ false) × (pass.new.parts ≡ pass.old.parts) × (pass.new.claim ≡ None) }
     ensures landed { OnOk result (pass.new.carries ≡ false) }
     ensures memory { OnErr result (pass.new.carries ≡ true) }
 {
     let mut desk = lock.hold(rt, pass);
     let landed = desk.land(tool);
-    lock.give(pass, desk, None);
+    lock.give(pass, desk, None, None);
     landed
 }
 

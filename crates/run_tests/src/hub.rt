@@ -1,12 +1,15 @@
 //! Small hubs over devices in memory.
-ghost use Rattle.std.specs.Prelude.{◌≡◌, ◌+◌, ◌<◌, ◌≤◌, All, IfOk, IfSome, length, ℕ, []};
+ghost use Rattle.std.specs.Prelude.{◌≡◌, ◌+◌, ◌<◌, ◌≤◌, All, IfOk, IfSome, IsTrue, length, ℕ, []};
 ghost use Rattle.hy_base.specs.Shape.{IsGoodShape, IsWithin};
 ghost use Rattle.hy_hub.specs.Calls.{IsIdle};
-ghost use Rattle.run_tests.specs.Trial.{IsTrial, IsPutOf};
+ghost use Rattle.run_tests.specs.Trial.{home_at, trial_homes, IsTrial, IsTrialShape, IsPutOf, TakesAll};
 
 use crate::calls::empty;
+use crate::courses::course_of;
+use crate::slow_disk::SlowDisk;
 use hy_base::{
-    Entry, Event, Home, Intention, Phase, Points, Pos, Shape, Spans, Value, Verdict, Write, Writes,
+    Entry, Event, Home, Intention, Isolation, Mode, Modes, Phase, Points, Pos, Shape, Spans, Value,
+    Verdict, Write, Writes,
 };
 use hy_disk::{Disk, Tuned};
 use hy_hist::Pass;
@@ -16,18 +19,19 @@ use hy_mem::MemDisk;
 use hy_pipe::{OpenGate, roll};
 use hy_roller::{Roller, Told};
 use std::alloc::{AllocError, Global};
+use std::marker::Brand;
 use std::sync::Wait;
 use std::test::Fail;
 use std::thread;
 use std::thread::Threads;
 
 /// A hub, and a pass with all its parts.
-pub type Trial<D> = (Hub<D>, Pass<Contents<D>>);
+pub type Trial<D, B> = (Hub<D, B>, Pass<Contents<D, B>>);
 
 /// A log without entries on a device.
 pub fn open_on<D: Disk + Drop>(alloc: Global, disk: D, shape: Shape) -> Result<PageLog<D>, Fail>
     requires { IsGoodShape shape }
-    ensures { IfOk result (λ log. (log.stopped ≡ None) × (log.batch ≡ []) × (log.bodies ≡ []) × (log.shape ≡ shape)) }
+    ensures { IfOk result (λ log. (log.stopped ≡ None) × (log.batch ≡ []) × (log.bodies ≡ []) × (log.from ≡ 0) × (log.shape ≡ shape)) }
 {
     let Ok(log) = open_log(alloc, disk, Some(shape)) else {
         return Err("not opened")?;
@@ -38,53 +42,67 @@ pub fn open_on<D: Disk + Drop>(alloc: Global, disk: D, shape: Shape) -> Result<P
     Ok(log)
 }
 
-// A log without entries on a device in memory.
-fn log_on(alloc: Global, shape: Shape) -> Result<PageLog<MemDisk>, Fail>
-    requires { IsGoodShape shape }
-    ensures { IfOk result (λ log. (log.stopped ≡ None) × (log.batch ≡ []) × (log.bodies ≡ []) × (log.shape ≡ shape)) }
+// The home of a client of a server, which has three programs.
+fn home_at(alloc: Global, server: u8) -> Result<Home, AllocError>
+    ensures { IfOk result (λ home. home ≡ home_at server) }
 {
-    open_on(alloc, empty(alloc)?, shape)
+    let plain = Mode {
+        isolation: Isolation::Serializable,
+        as_of: None,
+    };
+    let programs = vec![in alloc; plain; 3]?;
+    Ok(Home {
+        server,
+        programs: Modes::from_vec(programs),
+    })
 }
 
-/// A hub of two servers with a client each, which has three programs.
-pub fn hub_on<D: Disk + Drop>(
+fn homes(alloc: Global) -> Result<Vec<Home>, AllocError>
+    ensures { IfOk result (λ homes. homes.items ≡ trial_homes) }
+{
+    let mut homes = Vec::new(alloc);
+    homes.push(home_at(alloc, 1)?)?;
+    homes.push(home_at(alloc, 2)?)?;
+    homes.push(home_at(alloc, 1)?)?;
+    homes.push(home_at(alloc, 1)?)?;
+    homes.push(home_at(alloc, 1)?)?;
+    Ok(homes)
+}
+
+/// A hub of two servers. The second client is at the second, the other four are at the first, and each has three programs.
+pub fn hub_on<D: Disk + Drop, B: Since>(
     alloc: Global,
     shape: Shape,
     log: PageLog<D>,
-) -> Result<Trial<D>, Fail>
-    requires { IsGoodShape shape × (log.stopped ≡ None) × (log.batch ≡ []) × (log.bodies ≡ []) × (log.shape ≡ shape) }
+) -> Result<Trial<D, B>, Fail>
+    requires log { IsGoodShape shape × (log.stopped ≡ None) × (log.batch ≡ []) × (log.bodies ≡ []) × (log.from ≡ 0) × (log.shape ≡ shape) }
+    requires untold { IsTrue D.tells → ⊥ }
+    requires least { B.least ≡ 0 }
+    requires version { B.version ≡ shape.version }
     ensures trial { IfOk result (λ r. IsTrial r.0 shape r.1) }
     ensures parts { IfOk result (λ r. (r.0.parts ≡ 129) × (r.1.parts ≡ 129)) }
 {
-    let homes = [
-        Home {
-            server: 1,
-            programs: 3,
-        },
-        Home {
-            server: 2,
-            programs: 3,
-        },
-    ];
+    let homes = homes(alloc)?;
     let start = Roller::new(alloc, shape)?;
-    match Hub::new(alloc, log, Vec::new(alloc), start, 2, &homes) {
+    match Hub::new(alloc, log, Vec::new(alloc), start, 2, homes, 1) {
         Ok(made) => Ok(made),
         Err(_) => Err(Fail::from(AllocError)),
     }
 }
 
-fn start(alloc: Global, shape: Shape) -> Result<Trial<MemDisk>, Fail>
-    requires { IsGoodShape shape }
+// Such a hub on a device in memory that tells nothing, so that no clause looks back.
+fn start_on(alloc: Global, shape: Shape, disk: MemDisk) -> Result<Trial<SlowDisk, Brand>, Fail>
+    requires { IsTrialShape shape }
     ensures trial { IfOk result (λ r. IsTrial r.0 shape r.1) }
     ensures parts { IfOk result (λ r. (r.0.parts ≡ 129) × (r.1.parts ≡ 129)) }
 {
-    let log = log_on(alloc, shape)?;
-    hub_on(alloc, shape, log)
+    let log = open_on(alloc, SlowDisk::quiet(alloc, disk)?, shape)?;
+    hub_on::<SlowDisk, Brand>(alloc, shape, log)
 }
 
-// A put of a byte at key 1 by a client of the server with its number. None where memory runs out.
-fn put(alloc: Global, client: u8, snap: Pos, byte: u8) -> Option<Entry>
-    requires { IsWithin 1 2 client }
+/// A put of a byte at key 1 by a client at its server. None where memory runs out.
+pub fn put(alloc: Global, client: u8, snap: Pos, byte: u8) -> Option<Entry>
+    requires { IsWithin 1 5 client }
     ensures { IfSome result (IsPutOf client) }
 {
     let value = Value::new(vec![in alloc; byte; 1].ok()?).ok()?;
@@ -93,8 +111,9 @@ fn put(alloc: Global, client: u8, snap: Pos, byte: u8) -> Option<Entry>
         value: Some(value),
     };
     Some(Entry::transaction(Intention {
-        server: client,
+        server: if client == 2 { 2 } else { 1 },
         client,
+        isolation: Isolation::Serializable,
         snap,
         points: Points::new(alloc),
         spans: Spans::new(alloc),
@@ -103,15 +122,15 @@ fn put(alloc: Global, client: u8, snap: Pos, byte: u8) -> Option<Entry>
 }
 
 // The client's next program begins.
-fn begin<D: Disk, R: Wait>(
+fn begin<D: Disk, B: Since, R: Wait>(
     rt: &R,
     shape: Shape,
-    hub: &Hub<D>,
-    pass: &mut Pass<Contents<D>>,
+    hub: &Hub<D, B>,
+    pass: &mut Pass<Contents<D, B>>,
     client: u8,
 ) -> Result<Begun, BeginRefusal>
     requires trial { IsTrial hub.now shape pass.old }
-    requires client { IsWithin 1 2 client }
+    requires client { IsWithin 1 5 client }
     ensures trial { IsTrial hub.now shape pass.new }
     ensures parts { pass.new.parts ≡ pass.old.parts }
 {
@@ -119,50 +138,53 @@ fn begin<D: Disk, R: Wait>(
     hub.begin(rt, pass, client)
 }
 
-/// Whether the client's next program begins.
-pub fn begins<D: Disk, R: Wait>(
+/// The number of the client's next program, where it begins.
+pub fn begins<D: Disk, B: Since, R: Wait>(
     rt: &R,
     shape: Shape,
-    hub: &Hub<D>,
-    pass: &mut Pass<Contents<D>>,
+    hub: &Hub<D, B>,
+    pass: &mut Pass<Contents<D, B>>,
     client: u8,
-) -> bool
+) -> Option<u32>
     requires trial { IsTrial hub.now shape pass.old }
-    requires client { IsWithin 1 2 client }
+    requires client { IsWithin 1 5 client }
     ensures trial { IsTrial hub.now shape pass.new }
     ensures parts { pass.new.parts ≡ pass.old.parts }
 {
-    let begun = begin(rt, shape, hub, pass, client);
-    let is_begun = begun.is_ok();
+    let begun = begin(rt, shape, hub, pass, client).ok()?;
+    let number = begun.number;
     drop(begun);
-    is_begun
+    Some(number)
 }
 
-fn append<D: Disk, R: Wait>(
+/// The entry of the client's program of a number is appended.
+pub fn append<D: Disk, B: Since, R: Wait>(
     rt: &R,
     shape: Shape,
-    hub: &Hub<D>,
-    pass: &mut Pass<Contents<D>>,
+    hub: &Hub<D, B>,
+    pass: &mut Pass<Contents<D, B>>,
     client: u8,
+    number: u32,
     entry: Entry,
 ) -> Result<Pos, AppendRefusal>
+    requires free { TakesAll B.suits }
     requires trial { IsTrial hub.now shape pass.old }
-    requires client { IsWithin 1 2 client }
+    requires client { IsWithin 1 5 client }
     requires own { IsPutOf client entry }
     ensures trial { IsTrial hub.now shape pass.new }
     ensures parts { pass.new.parts ≡ pass.old.parts }
 {
     let _ = shape;
-    hub.append(rt, pass, client, entry)
+    hub.append(rt, pass, client, number, entry)
 }
 
 // What a server's look gives, rolled and published.
-fn catch_up<D: Disk, R: Threads + Wait + Sync>(
+fn catch_up<D: Disk, B: Since, R: Threads + Wait + Sync>(
     rt: &R,
     alloc: Global,
     shape: Shape,
-    hub: &Hub<D>,
-    pass: &mut Pass<Contents<D>>,
+    hub: &Hub<D, B>,
+    pass: &mut Pass<Contents<D, B>>,
     server: u8,
 ) -> Option<Result<(), PublishRefusal>>
     requires trial { IsTrial hub.now shape pass.old }
@@ -178,50 +200,71 @@ fn catch_up<D: Disk, R: Threads + Wait + Sync>(
     Some(hub.publish(rt, pass, server, rolled?))
 }
 
+/// How many writes and syncs the opening of a device without bytes takes.
+pub const OPENING: u64 = 7;
+
 /// Groups of one.
 pub const SHAPE: Shape = Shape {
     group: 1,
     window: 1,
     cap: 8,
+    version: 1,
+    horizon: None,
 };
 
 const PAIRS: Shape = Shape {
     group: 2,
     window: 1,
     cap: 8,
+    version: 1,
+    horizon: None,
 };
 
 const FOURS: Shape = Shape {
     group: 4,
     window: 1,
     cap: 8,
+    version: 1,
+    horizon: None,
+};
+
+/// Groups of five.
+pub const FIVES: Shape = Shape {
+    group: 5,
+    window: 1,
+    cap: 10,
+    version: 1,
+    horizon: None,
 };
 
 const SMALL: Shape = Shape {
     group: 1,
     window: 1,
     cap: 1,
+    version: 1,
+    horizon: None,
 };
 
 /// The client's next program begins, and puts a byte.
-pub fn put_once<D: Disk, R: Wait>(
+pub fn put_once<D: Disk, B: Since, R: Wait>(
     rt: &R,
     alloc: Global,
     shape: Shape,
-    hub: &Hub<D>,
-    pass: &mut Pass<Contents<D>>,
+    hub: &Hub<D, B>,
+    pass: &mut Pass<Contents<D, B>>,
     client: u8,
 ) -> Option<Result<Pos, AppendRefusal>>
+    requires free { TakesAll B.suits }
     requires trial { IsTrial hub.now shape pass.old }
-    requires client { IsWithin 1 2 client }
+    requires client { IsWithin 1 5 client }
     ensures trial { IsTrial hub.now shape pass.new }
     ensures parts { pass.new.parts ≡ pass.old.parts }
 {
     let begun = begin(rt, shape, hub, pass, client).ok()?;
-    let snap = begun.snap;
+    let (number, snap) = (begun.number, begun.snap);
     drop(begun);
     let entry = put(alloc, client, snap, b'a')?;
-    Some(append(rt, shape, hub, pass, client, entry))
+    Some(append(rt, shape, hub, pass, client, number, entry))
 }
 
 // A small hub, with the one pass that has all its parts.
@@ -229,17 +272,17 @@ pub fn put_once<D: Disk, R: Wait>(
 struct Bench {
     alloc: Global,
     shape: Shape,
-    hub: Hub<MemDisk>,
-    pass: Pass<Contents<MemDisk>>,
+    hub: Hub<SlowDisk, Brand>,
+    pass: Pass<Contents<SlowDisk, Brand>>,
     ghost trial: { IsTrial hub shape pass },
     ghost whole: { hub.parts ≡ pass.parts },
 }
 
 impl Bench {
     fn new(alloc: Global, shape: Shape) -> Result<Bench, Fail>
-        requires { IsGoodShape shape }
+        requires { IsTrialShape shape }
     {
-        let (hub, pass) = start(alloc, shape)?;
+        let (hub, pass) = start_on(alloc, shape, empty(alloc)?)?;
         Ok(Bench {
             alloc,
             shape,
@@ -250,11 +293,11 @@ impl Bench {
 
     // Its device fails in its k-th write or sync.
     fn failing(alloc: Global, shape: Shape, k: u64) -> Result<Bench, Fail>
-        requires { IsGoodShape shape × (1 ≤ k) }
+        requires { IsTrialShape shape × (1 ≤ k) × (k < 100) }
     {
-        let mut log = log_on(alloc, shape)?;
-        log.arm(k);
-        let (hub, pass) = hub_on(alloc, shape, log)?;
+        let mut disk = empty(alloc)?;
+        disk.arm(OPENING + k);
+        let (hub, pass) = start_on(alloc, shape, disk)?;
         Ok(Bench {
             alloc,
             shape,
@@ -287,24 +330,25 @@ impl Bench {
         put_once(rt, alloc, shape, &self.hub, &mut self.pass, client)
     }
 
-    // A put of the client on a snapshot, whether or not it began there.
+    // A put of the client's program of a number on a snapshot, whether or not it began there.
     fn append<R: Wait>(
         &mut self,
         rt: &R,
         client: u8,
+        number: u32,
         snap: Pos,
     ) -> Option<Result<Pos, AppendRefusal>>
         requires { IsWithin 1 2 client }
     {
         let entry = put(self.alloc, client, snap, b'b')?;
         let (hub, pass) = (&self.hub, &mut self.pass);
-        Some(append(rt, self.shape, hub, pass, client, entry))
+        Some(append(rt, self.shape, hub, pass, client, number, entry))
     }
 
-    fn end<R: Wait>(&mut self, rt: &R, client: u8) -> Result<(), EndRefusal>
+    fn end<R: Wait>(&mut self, rt: &R, client: u8, number: u32, snap: Pos) -> Result<(), EndRefusal>
         requires { IsWithin 1 2 client }
     {
-        self.hub.end(rt, &mut self.pass, client)
+        self.hub.end(rt, &mut self.pass, client, number, snap)
     }
 
     fn pad<R: Wait>(&mut self, rt: &R, server: u8) -> Result<Pos, PadRefusal>
@@ -338,7 +382,7 @@ impl Bench {
         }
     }
 
-    fn close(self) -> Closed<MemDisk> {
+    fn close(self) -> Closed<SlowDisk> {
         let Bench {
             alloc: _,
             shape: _,
@@ -350,8 +394,8 @@ impl Bench {
 }
 
 // The device of a hub that is closed.
-fn device_of<D: Disk + Drop>(closed: Closed<D>) -> D {
-    closed.log.close()
+fn device_of(closed: Closed<SlowDisk>) -> MemDisk {
+    closed.log.close().into_disk()
 }
 
 // The refusal of a call that comes when its client is elsewhere.
@@ -367,7 +411,7 @@ fn a_program_is_begun_and_appended(rt: HostRuntime) -> Result<(), Fail> {
     assert!(rt; bench.begin(&rt, 1).err() == Some(behind));
     assert!(rt; bench.pad(&rt, 1) == Err(PadRefusal::Even));
     let closed = bench.close();
-    assert!(rt; closed.entries.len() == 1 && closed.occurrences.len() == 5);
+    assert!(rt; closed.entries.len() == 1 && closed.occurrences.len() == 7);
     assert!(rt; device_of(closed).bytes().len() == 513);
     Ok(())
 }
@@ -424,11 +468,18 @@ fn a_call_out_of_turn_is_refused(rt: HostRuntime) -> Result<(), Fail> {
     let twice = BeginRefusal::OutOfTurn { client, phase };
     assert!(rt; bench.begin(&rt, 1).err() == Some(twice));
     let other = AppendRefusal::OutOfTurn { client, phase };
-    assert!(rt; bench.append(&rt, 1, 0) == Some(Err(other)));
-    assert!(rt; bench.end(&rt, 1) == Ok(()));
+    assert!(rt; bench.append(&rt, 1, 2, 0) == Some(Err(other)));
+    assert!(rt; bench.append(&rt, 1, 1, 1) == Some(Err(other)));
+    assert!(rt; bench.append(&rt, 1, 3, 1) == Some(Err(other)));
+    let busy = EndRefusal::OutOfTurn { client, phase };
+    assert!(rt; bench.end(&rt, 1, 2, 0) == Err(busy));
+    assert!(rt; bench.end(&rt, 1, 1, 1) == Err(busy));
+    assert!(rt; bench.end(&rt, 1, 3, 1) == Err(busy));
+    assert!(rt; bench.end(&rt, 1, 2, 1) == Ok(()));
     let phase = Phase::Idle;
     let idle = EndRefusal::OutOfTurn { client, phase };
-    assert!(rt; bench.end(&rt, 1) == Err(idle));
+    assert!(rt; bench.end(&rt, 1, 2, 1) == Err(idle));
+    assert!(rt; bench.end(&rt, 1, 3, 1) == Err(idle));
     drop(bench);
     Ok(())
 }
@@ -467,7 +518,7 @@ fn an_append_that_fails_stops_the_hub(rt: HostRuntime) -> Result<(), Fail> {
     assert!(rt; bench.put(&rt, 1) == Some(Err(AppendRefusal::Device)));
     let stopped = AppendRefusal::Stopped { at: 1 };
     assert!(rt; bench.put(&rt, 2) == Some(Err(stopped)));
-    assert!(rt; bench.end(&rt, 1) == Ok(()));
+    assert!(rt; bench.end(&rt, 1, 1, 0) == Ok(()));
     let wanted = [
         Event::Begin { client: 1 },
         Event::Begin { client: 2 },
@@ -476,16 +527,28 @@ fn an_append_that_fails_stops_the_hub(rt: HostRuntime) -> Result<(), Fail> {
     assert!(rt; bench.has_trace(&rt, &wanted));
     let closed = bench.close();
     assert!(rt; closed.log.stopped() == Some(1) && closed.entries.len() == 0);
-    assert!(rt; is_one_body(rt.alloc(), device_of(closed).stop(1)));
+    assert!(rt; has_bodies(rt.alloc(), device_of(closed).stop(1), 1));
     Ok(())
 }
 
-// Whether a device holds a log of one body.
-fn is_one_body(alloc: Global, disk: MemDisk) -> bool {
+// Whether a device holds a log of so many bodies.
+fn has_bodies(alloc: Global, disk: MemDisk, count: Pos) -> bool {
     match open_log(alloc, disk, Some(SHAPE)) {
-        Ok(log) => log.len() == 1,
+        Ok(log) => log.len() == count,
         Err(_) => false,
     }
+}
+
+#[test]
+fn a_batch_that_is_not_laid_down_stops_the_hub(rt: HostRuntime) -> Result<(), Fail> {
+    for k in 1..3 {
+        let mut bench = Bench::failing(rt.alloc(), SHAPE, k)?;
+        assert!(rt; bench.put(&rt, 1) == Some(Err(AppendRefusal::Device)));
+        let closed = bench.close();
+        assert!(rt; closed.log.stopped() == Some(1) && closed.entries.len() == 0);
+        assert!(rt; has_bodies(rt.alloc(), device_of(closed).stop(1), 0));
+    }
+    Ok(())
 }
 
 #[test]
@@ -512,13 +575,14 @@ fn fillers_are_written_at_once(rt: HostRuntime) -> Result<(), Fail> {
 }
 
 // A client's programs, one after another, each begun once its server has published the one before.
-fn run_client<D: Disk, R: Threads + Wait + Sync>(
+fn run_client<D: Disk, B: Since, R: Threads + Wait + Sync>(
     rt: &R,
     alloc: Global,
-    hub: &Hub<D>,
-    pass: &mut Pass<Contents<D>>,
+    hub: &Hub<D, B>,
+    pass: &mut Pass<Contents<D, B>>,
     client: u8,
 ) -> Option<()>
+    requires free { TakesAll B.suits }
     requires trial { IsTrial hub.now SHAPE pass.old }
     requires client { IsWithin 1 2 client }
     ensures trial { IsTrial hub.now SHAPE pass.new }
@@ -533,18 +597,19 @@ fn run_client<D: Disk, R: Threads + Wait + Sync>(
 
 // A client whose programs run on a thread, with a pass of its own.
 #[derive(Drop)]
-struct Errand<D: Disk> {
+struct Errand<D: Disk, B: Since> {
     client: u8,
-    pass: Pass<Contents<D>>,
+    pass: Pass<Contents<D, B>>,
     done: bool,
 }
 
-fn run_errand<D: Disk, R: Threads + Wait + Sync>(
+fn run_errand<D: Disk, B: Since, R: Threads + Wait + Sync>(
     rt: &R,
     alloc: Global,
-    hub: &Hub<D>,
-    errand: &mut Errand<D>,
+    hub: &Hub<D, B>,
+    errand: &mut Errand<D, B>,
 )
+    requires free { TakesAll B.suits }
     requires client { IsWithin 1 2 errand.old.client }
     requires trial { IsTrial hub.now SHAPE errand.old.pass }
     ensures trial { IsTrial hub.now SHAPE errand.new.pass }
@@ -555,12 +620,13 @@ fn run_errand<D: Disk, R: Threads + Wait + Sync>(
 }
 
 // Runs the errands concurrently, on two threads.
-fn run_errands<D: Disk + Send, R: Threads + Wait + Sync>(
+fn run_errands<D: Disk + Send, B: Since + Send, R: Threads + Wait + Sync>(
     rt: &R,
     alloc: Global,
-    hub: &Hub<D>,
-    errands: &mut [Errand<D>],
+    hub: &Hub<D, B>,
+    errands: &mut [Errand<D, B>],
 )
+    requires free { TakesAll B.suits }
     requires clients { All (λ errand. IsWithin 1 2 errand.client) errands.old }
     requires trial { All (λ errand. IsTrial hub.now SHAPE errand.pass) errands.old }
     ensures trial { All (λ errand. IsTrial hub.now SHAPE errand.pass) errands.new }
@@ -570,18 +636,18 @@ fn run_errands<D: Disk + Send, R: Threads + Wait + Sync>(
         rt,
         errands,
         2,
-        &|_, errand: &mut Errand<D>|
-            requires { IsWithin 1 2 errand.now.client × IsTrial hub.now SHAPE errand.now.pass }
+        &|_, errand: &mut Errand<D, B>|
+            requires { TakesAll B.suits × IsWithin 1 2 errand.now.client × IsTrial hub.now SHAPE errand.now.pass }
             ensures { IsTrial hub.entry.now SHAPE errand.exit.now.pass }
         { run_errand(rt, alloc, hub, errand) },
     );
 }
 
 // Takes in the pass of the last errand. Whether there was one, and its client is done.
-fn join_last<D: Disk>(
-    hub: &Hub<D>,
-    pass: &mut Pass<Contents<D>>,
-    errands: &mut Vec<Errand<D>>,
+fn join_last<D: Disk, B: Since>(
+    hub: &Hub<D, B>,
+    pass: &mut Pass<Contents<D, B>>,
+    errands: &mut Vec<Errand<D, B>>,
 ) -> bool
     requires pass { IsIdle hub.now pass.old }
     requires trial { All (λ errand. IsTrial hub.now SHAPE errand.pass) errands.old.items }
@@ -604,7 +670,7 @@ fn join_last<D: Disk>(
 
 // Both clients concurrently, each with a pass of its own.
 fn run_beside<R: Threads + Wait + Sync>(rt: &R, alloc: Global) -> Result<Events, Fail> {
-    let (hub, mut pass) = start(alloc, SHAPE)?;
+    let (hub, mut pass) = start_on(alloc, SHAPE, empty(alloc)?)?;
     let one = Errand {
         client: 1,
         pass: hub.split(&mut pass, 1),
@@ -630,138 +696,6 @@ fn run_beside<R: Threads + Wait + Sync>(rt: &R, alloc: Global) -> Result<Events,
     Ok(trace)
 }
 
-// How far a client and its server have come.
-#[derive(Clone, Copy)]
-struct Side {
-    board: Pos,
-    runs: bool,
-    left: u8,
-    last: Pos,
-}
-
-// How long the log is, and how far each client has come with its server.
-#[derive(Clone, Copy)]
-struct Course {
-    len: Pos,
-    one: Side,
-    two: Side,
-}
-
-const AT_FIRST: Side = Side {
-    board: 0,
-    runs: false,
-    left: 3,
-    last: 0,
-};
-
-fn side_of(course: Course, number: u8) -> Option<Side> {
-    match number {
-        1 => Some(course.one),
-        2 => Some(course.two),
-        _ => None,
-    }
-}
-
-fn with_side(course: Course, number: u8, side: Side) -> Course {
-    if number == 1 {
-        Course {
-            one: side,
-            ..course
-        }
-    } else {
-        Course {
-            two: side,
-            ..course
-        }
-    }
-}
-
-// How much of a group stands at the end of this many entries.
-fn part_of(len: Pos, shape: Shape) -> Pos {
-    let group = Pos::from(shape.group);
-    if group == 0 { 0 } else { len % group }
-}
-
-fn begun(side: Side) -> Option<Side> {
-    if side.runs || side.left == 0 || side.board < side.last {
-        return None;
-    }
-    Some(Side { runs: true, ..side })
-}
-
-fn appended(side: Side, at: Pos) -> Option<Side> {
-    if !side.runs || side.left == 0 {
-        return None;
-    }
-    Some(Side {
-        runs: false,
-        left: side.left - 1,
-        last: at,
-        ..side
-    })
-}
-
-fn published(side: Side, upto: Pos, len: Pos, shape: Shape) -> Option<Side> {
-    if upto <= side.board || len < upto || part_of(upto, shape) != 0 {
-        return None;
-    }
-    Some(Side {
-        board: upto,
-        ..side
-    })
-}
-
-// The length once the last group is whole. None where it is so already.
-fn padded(len: Pos, shape: Shape) -> Option<Pos> {
-    let part = part_of(len, shape);
-    if part == 0 {
-        return None;
-    }
-    let lack = Pos::from(shape.group).checked_sub(part)?;
-    len.checked_add(lack)
-}
-
-// Where an event leads. None where it may not happen, or doesn't come in these runs.
-fn after(course: Course, event: Event, shape: Shape) -> Option<Course> {
-    match event {
-        Event::Begin { client } => {
-            let side = begun(side_of(course, client)?)?;
-            Some(with_side(course, client, side))
-        }
-        Event::Append { client } => {
-            if course.len >= shape.cap {
-                return None;
-            }
-            let len = course.len + 1;
-            let side = appended(side_of(course, client)?, len)?;
-            Some(with_side(Course { len, ..course }, client, side))
-        }
-        Event::Publish { server, upto } => {
-            let side = published(side_of(course, server)?, upto, course.len, shape)?;
-            Some(with_side(course, server, side))
-        }
-        Event::Pad { server } => {
-            let _ = side_of(course, server)?;
-            let len = padded(course.len, shape)?;
-            Some(Course { len, ..course })
-        }
-        Event::End { .. } | Event::Refuse { .. } | Event::Stop { .. } => None,
-    }
-}
-
-// Where a trace leads from an empty log. None where one of its events may not happen.
-fn course_of(shape: Shape, trace: &[Event]) -> Option<Course> {
-    let mut course = Course {
-        len: 0,
-        one: AT_FIRST,
-        two: AT_FIRST,
-    };
-    for event in trace {
-        course = after(course, *event, shape)?;
-    }
-    Some(course)
-}
-
 fn count_of(trace: &[Event], wanted: Event) -> usize {
     trace.iter().filter(|event| **event == wanted).count()
 }
@@ -778,20 +712,5 @@ fn two_threads_run_their_clients(rt: HostRuntime) -> Result<(), Fail> {
     for side in [course.one, course.two] {
         assert!(rt; side.left == 0 && !side.runs && side.board >= side.last);
     }
-    Ok(())
-}
-
-#[test]
-fn a_trace_out_of_order_is_not_legal(rt: HostRuntime) -> Result<(), Fail> {
-    let begin = Event::Begin { client: 1 };
-    let append = Event::Append { client: 1 };
-    let publish = Event::Publish { server: 1, upto: 1 };
-    assert!(rt; course_of(SHAPE, &[begin, append, publish, begin]).is_some());
-    assert!(rt; course_of(SHAPE, &[begin, begin]).is_none());
-    assert!(rt; course_of(SHAPE, &[append]).is_none());
-    assert!(rt; course_of(SHAPE, &[begin, append, begin]).is_none());
-    assert!(rt; course_of(SHAPE, &[begin, publish]).is_none());
-    assert!(rt; course_of(SHAPE, &[begin, append, publish, publish]).is_none());
-    assert!(rt; course_of(SHAPE, &[Event::Pad { server: 1 }]).is_none());
     Ok(())
 }

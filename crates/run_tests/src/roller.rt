@@ -1,13 +1,14 @@
 //! Small logs, rolled whole and in every cut.
 ghost use Rattle.std.specs.Prelude.{◌≡◌, ◌%◌, ◌≤◌, IfOk};
-ghost use Rattle.hy_base.specs.Shape.{IsGoodShape, IsWithin};
+ghost use Rattle.hy_base.specs.Shape.{IsGoodShape, IsWithin, before_horizon};
 ghost use Rattle.hy_base.specs.Limits.{IsThreadCount};
-ghost use Rattle.hy_base.specs.Rows.{Each};
+ghost use Rattle.hy_base.specs.Rows.{Agrees, Each};
 ghost use Rattle.hy_formats.specs.Checkpoint.{base_behind};
 
 use crate::tree::{value, writer};
 use hy_base::{
-    Clash, Entry, Intention, Key, Points, Pos, Shape, Shared, Span, Spans, Verdict, Write, Writes,
+    Clash, Entry, Intention, Isolation, Key, Points, Pos, Shape, Shared, Span, Spans, Verdict,
+    Write, Writes,
 };
 use hy_pipe::*;
 use hy_roller::*;
@@ -15,6 +16,7 @@ use hy_tree::Tree;
 use std::alloc::Global;
 use std::sync::atomic::{AtomicU32, Ordering};
 use std::test::Fail;
+use std::thread;
 use std::thread::Threads;
 
 // A transaction's snapshot, the keys that it read, the key that it writes, and the byte that it puts there; none deletes it.
@@ -32,6 +34,7 @@ fn transaction(alloc: Global, txn: Txn) -> Result<Entry, Fail> {
     Ok(Entry::transaction(Intention {
         server: 1,
         client: 1,
+        isolation: Isolation::Serializable,
         snap,
         points: Points::new(alloc),
         spans: Spans::from_vec(vec![in alloc; Span { lo, hi }]?),
@@ -81,14 +84,38 @@ fn further<R: Threads + Sync, G: Gate + Sync>(
     Ok(roll(roller, rt, alloc, entries, threads, gate)?)
 }
 
-fn shape(group: u8, window: u8, cap: Pos) -> Result<Shape, Fail>
+fn checked(shape: Shape) -> Result<Shape, Fail>
     ensures { IfOk result IsGoodShape }
 {
-    let shape = Shape { group, window, cap };
     match shape.check() {
         Ok(()) => Ok(shape),
         Err(_) => Err(Fail::new("the shape is refused")),
     }
+}
+
+fn shape(group: u8, window: u8, cap: Pos) -> Result<Shape, Fail>
+    ensures { IfOk result IsGoodShape }
+{
+    checked(Shape {
+        group,
+        window,
+        cap,
+        version: 1,
+        horizon: None,
+    })
+}
+
+// Groups of one, windows of one, and a horizon.
+fn shape_with(horizon: Pos) -> Result<Shape, Fail>
+    ensures { IfOk result IsGoodShape }
+{
+    checked(Shape {
+        group: 1,
+        window: 1,
+        cap: 8,
+        version: 3,
+        horizon: Some(horizon),
+    })
 }
 
 // The entries rolled from the first one on.
@@ -162,17 +189,17 @@ fn early(key: Key, by: Pos) -> Option<Verdict> {
 
 const COMMIT: Option<Verdict> = Some(Verdict::Commit);
 
-// Whether a log of a shape with room for 8 has these verdicts, and leaves these rows.
+// Whether a log has these verdicts, and leaves these rows.
 fn decides<R: Threads + Sync>(
     rt: &R,
     alloc: Global,
-    group: u8,
-    window: u8,
+    shape: Shape,
     items: &[Item],
     verdicts: &[Option<Verdict>],
     rows: &[(Key, Pos, bool)],
-) -> Result<bool, Fail> {
-    let shape = shape(group, window, 8)?;
+) -> Result<bool, Fail>
+    requires { IsGoodShape shape }
+{
     let roller = rolled_log(rt, alloc, shape, items, &OpenGate)?;
     let decides = tells(&roller, verdicts) && has(roller.tree(), rows) && bounds(&roller, 0);
     drop(roller);
@@ -190,7 +217,39 @@ fn bounds(roller: &Roller, from: Pos) -> bool {
 fn later_sums_abort(rt: HostRuntime) -> Result<(), Fail> {
     let verdicts = [COMMIT, last(7, 1), early(7, 1)];
     let rows = [(7, 1, true)];
-    assert!(rt; decides(&rt, rt.alloc(), 1, 1, &[SUM, SUM, SUM], &verdicts, &rows)?);
+    let shape = shape(1, 1, 8)?;
+    assert!(rt; decides(&rt, rt.alloc(), shape, &[SUM, SUM, SUM], &verdicts, &rows)?);
+    Ok(())
+}
+
+// Key 15 is put, and deleted.
+const PUT: Item = Some((0, 15, 15, 15, ONE));
+
+const DELETE: Item = Some((1, 15, 15, 15, None));
+
+// A scan on the empty snapshot.
+const SCAN: Item = Some((0, 10, 20, 100, ONE));
+
+#[test]
+fn a_horizon_makes_a_snapshot_too_old(rt: HostRuntime) -> Result<(), Fail> {
+    let log = [PUT, DELETE, SCAN];
+    let old = [COMMIT, COMMIT, Some(Verdict::Old { snap: 0 })];
+    let near = shape_with(1)?;
+    assert!(rt; decides(&rt, rt.alloc(), near, &log, &old, &[])?);
+    let clash = [COMMIT, COMMIT, early(15, 1)];
+    let far = shape_with(2)?;
+    assert!(rt; decides(&rt, rt.alloc(), far, &log, &clash, &[(15, 2, false)])?);
+    Ok(())
+}
+
+#[test]
+fn an_old_deletion_is_left_out(rt: HostRuntime) -> Result<(), Fail> {
+    let log = [PUT, DELETE, Some((2, 1, 1, 1, ONE))];
+    let near = shape_with(1)?;
+    assert!(rt; decides(&rt, rt.alloc(), near, &log, &[COMMIT; 3], &[(1, 3, true)])?);
+    let far = shape_with(2)?;
+    let rows = [(1, 3, true), (15, 2, false)];
+    assert!(rt; decides(&rt, rt.alloc(), far, &log, &[COMMIT; 3], &rows)?);
     Ok(())
 }
 
@@ -382,28 +441,49 @@ fn each_group_enters_once(rt: HostRuntime) -> Result<(), Fail> {
     Ok(())
 }
 
-// Keeps the first group until the second one has entered. It gives up after a number of turns.
+// Keeps the first group until another one has entered. It gives up after a number of turns. It may say that it keeps none, and
+// then threads are started only where they are worth it.
 #[derive(Drop)]
 struct Meeting {
-    second: AtomicU32,
+    keeps: bool,
+    other: u32,
+    entered: AtomicU32,
     gave_up: AtomicU32,
+}
+
+impl Meeting {
+    fn new(keeps: bool, other: u32) -> Meeting {
+        Meeting {
+            keeps,
+            other,
+            entered: AtomicU32::new(0),
+            gave_up: AtomicU32::new(0),
+        }
+    }
 }
 
 impl Gate for Meeting {
     fn enter(&self, group: u32) {
-        if group == 2 {
-            self.second.store(1, Ordering::SeqCst);
+        if group == self.other {
+            self.entered.store(1, Ordering::SeqCst);
+        }
+        if group != 1 {
             return;
         }
-        for _turn in 0..100000000 {
-            if self.second.load(Ordering::SeqCst) == 1 {
+        for _turn in 0..10000000 {
+            if self.entered.load(Ordering::SeqCst) == 1 {
                 return;
             }
+            thread::yield_now();
         }
         self.gave_up.fetch_add(1, Ordering::SeqCst);
     }
 
     fn client(&self, _client: u32) {}
+
+    fn keeps(&self) -> bool {
+        self.keeps
+    }
 }
 
 // Whether the second of two sums in one window clashes, rolled by two threads under a gate.
@@ -421,11 +501,34 @@ fn second_clashes<R: Threads + Sync, G: Gate + Sync>(
 
 #[test]
 fn groups_of_a_window_are_staged_beside_each_other(rt: HostRuntime) -> Result<(), Fail> {
-    let gate = Meeting {
-        second: AtomicU32::new(0),
-        gave_up: AtomicU32::new(0),
-    };
+    let gate = Meeting::new(true, 2);
     assert!(rt; second_clashes(&rt, rt.alloc(), &gate)?);
+    assert_eq!(rt; gate.gave_up.load(Ordering::SeqCst), 0);
+    Ok(())
+}
+
+// A window of 64 groups of eight, rolled by two threads under a gate. Each entry reads a span and writes a key, so that it
+// touches just as many as are worth threads.
+fn roll_widely<R: Threads + Sync, G: Gate + Sync>(
+    rt: &R,
+    alloc: Global,
+    gate: &G,
+) -> Result<(), Fail> {
+    let shape = shape(8, 64, 512)?;
+    let sum = entry(alloc, SUM)?;
+    let sums = sum.share_times(alloc, 512);
+    drop(sum);
+    let sums = sums?;
+    let roller = rolled(rt, alloc, shape, &sums, 2, gate);
+    drop(sums);
+    drop(roller?);
+    Ok(())
+}
+
+#[test]
+fn a_wide_window_is_staged_by_two_threads(rt: HostRuntime) -> Result<(), Fail> {
+    let gate = Meeting::new(false, 33);
+    roll_widely(&rt, rt.alloc(), &gate)?;
     assert_eq!(rt; gate.gave_up.load(Ordering::SeqCst), 0);
     Ok(())
 }
@@ -438,6 +541,7 @@ fn start_of(shape: Shape, roller: &Roller) -> Result<(Tree, Pos, Pos), Fail>
     ensures within { IfOk result (λ p. p.2 ≤ shape.cap) }
     ensures base { IfOk result (λ p. p.1 ≡ base_behind shape p.2) }
     ensures rows { IfOk result (λ p. Each (λ r. IsWithin 1 (base_behind shape p.2) r.writer) p.0) }
+    ensures left { IfOk result (λ p. Agrees (before_horizon shape.horizon (base_behind shape p.2)) p.0 p.0) }
 {
     let at = roller.at();
     let rows = roller.base_tree().share()?;

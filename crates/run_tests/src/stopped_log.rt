@@ -11,6 +11,8 @@ fn a_stopped_log_goes_on(rt: HostRuntime) -> Result<(), Fail> {
         group: 2,
         window: 1,
         cap: 8,
+        version: 1,
+        horizon: None,
     };
     let mut log = MemLog::new(alloc, shape)?;
     log.append(&[7; 60], 2)?;

@@ -1,8 +1,8 @@
 use Rattle.std.proofs.Common.{◌∙◌, Some, sym, ap}
 use Rattle.hy_cli.specs.Matches.{line_found}
-use Rattle.hy_cli.specs.declared.line.Line.TheVariants.{Run, Sim, Load}
+use Rattle.hy_cli.specs.declared.line.Line.TheVariants.{Run, Sim, Follow, Load}
 use Rattle.clap.specs.Words.{found_of, rows_of}
-use Rattle.hy_cli.proofs.Getters.{load_accepted, load_left, run_accepted, sim_accepted}
+use Rattle.hy_cli.proofs.Getters.{follow_accepted, load_accepted, load_left, run_accepted, sim_accepted}
 use Rattle.hy_cli.proofs.matched.line_from.Goals as goal
 
 pub threads_of-requires : goal.threads_of-requires
@@ -17,19 +17,22 @@ flag_of-requires-in-run c = (run_accepted c.args.name.now (rows_of (found_of c.a
 pub threads_of-requires-in-sim : goal.threads_of-requires-in-sim
 threads_of-requires-in-sim c = sim_accepted c.args.name.now (rows_of (found_of c.args.found.now)) c.in-sim.is c.requires.accepted
 
+pub threads_of-requires-in-follow : goal.threads_of-requires-in-follow
+threads_of-requires-in-follow c = follow_accepted c.args.name.now (rows_of (found_of c.args.found.now)) c.in-follow.is c.requires.accepted
+
 pub seed_of-requires : goal.seed_of-requires
 seed_of-requires c =
-    let is = load_left c.args.name.now c.requires.known c.in_default.not-recover c.in_default.not-check c.in_default.not-run c.in_default.not-sim in
+    let is = load_left c.args.name.now c.requires.known c.in_default.not-recover c.in_default.not-check c.in_default.not-compact c.in_default.not-ship c.in_default.not-run c.in_default.not-sim c.in_default.not-follow in
     (load_accepted c.args.name.now (rows_of (found_of c.args.found.now)) is c.requires.accepted).0
 
 pub size_of-requires : goal.size_of-requires
 size_of-requires c =
-    let is = load_left c.args.name.now c.requires.known c.in_default.not-recover c.in_default.not-check c.in_default.not-run c.in_default.not-sim in
+    let is = load_left c.args.name.now c.requires.known c.in_default.not-recover c.in_default.not-check c.in_default.not-compact c.in_default.not-ship c.in_default.not-run c.in_default.not-sim c.in_default.not-follow in
     (load_accepted c.args.name.now (rows_of (found_of c.args.found.now)) is c.requires.accepted).1
 
 pub threads_of-requires-in_default : goal.threads_of-requires-in_default
 threads_of-requires-in_default c =
-    let is = load_left c.args.name.now c.requires.known c.in_default.not-recover c.in_default.not-check c.in_default.not-run c.in_default.not-sim in
+    let is = load_left c.args.name.now c.requires.known c.in_default.not-recover c.in_default.not-check c.in_default.not-compact c.in_default.not-ship c.in_default.not-run c.in_default.not-sim c.in_default.not-follow in
     (load_accepted c.args.name.now (rows_of (found_of c.args.found.now)) is c.requires.accepted).2
 
 pub returns-in-recover-clause-word : goal.returns-in-recover-clause-word
@@ -44,6 +47,18 @@ returns-in-check-clause-word c = sym c.in-check.is
 pub returns-in-check-clause-line : goal.returns-in-check-clause-line
 returns-in-check-clause-line c = ap (λ n. line_found n (rows_of (found_of c.args.found.now))) c.in-check.is
 
+pub returns-in-compact-clause-word : goal.returns-in-compact-clause-word
+returns-in-compact-clause-word c = sym c.in-compact.is
+
+pub returns-in-compact-clause-line : goal.returns-in-compact-clause-line
+returns-in-compact-clause-line c = ap (λ n. line_found n (rows_of (found_of c.args.found.now))) c.in-compact.is
+
+pub returns-in-ship-clause-word : goal.returns-in-ship-clause-word
+returns-in-ship-clause-word c = sym c.in-ship.is
+
+pub returns-in-ship-clause-line : goal.returns-in-ship-clause-line
+returns-in-ship-clause-line c = ap (λ n. line_found n (rows_of (found_of c.args.found.now))) c.in-ship.is
+
 pub returns-in-run-clause-word : goal.returns-in-run-clause-word
 returns-in-run-clause-word c = sym c.in-run.is
 
@@ -57,10 +72,16 @@ returns-in-sim-clause-word c = sym c.in-sim.is
 pub returns-in-sim-clause-line : goal.returns-in-sim-clause-line
 returns-in-sim-clause-line c = ap (λ n. line_found n (rows_of (found_of c.args.found.now))) c.in-sim.is ∙ (λ i. Some (Sim (sym c.threads_of-in-sim.ensures.value i)))
 
+pub returns-in-follow-clause-word : goal.returns-in-follow-clause-word
+returns-in-follow-clause-word c = sym c.in-follow.is
+
+pub returns-in-follow-clause-line : goal.returns-in-follow-clause-line
+returns-in-follow-clause-line c = ap (λ n. line_found n (rows_of (found_of c.args.found.now))) c.in-follow.is ∙ (λ i. Some (Follow (sym c.threads_of-in-follow.ensures.value i)))
+
 pub returns-in_default-clause-word : goal.returns-in_default-clause-word
-returns-in_default-clause-word c = sym (load_left c.args.name.now c.requires.known c.in_default.not-recover c.in_default.not-check c.in_default.not-run c.in_default.not-sim)
+returns-in_default-clause-word c = sym (load_left c.args.name.now c.requires.known c.in_default.not-recover c.in_default.not-check c.in_default.not-compact c.in_default.not-ship c.in_default.not-run c.in_default.not-sim c.in_default.not-follow)
 
 pub returns-in_default-clause-line : goal.returns-in_default-clause-line
 returns-in_default-clause-line c =
-    let is = load_left c.args.name.now c.requires.known c.in_default.not-recover c.in_default.not-check c.in_default.not-run c.in_default.not-sim in
+    let is = load_left c.args.name.now c.requires.known c.in_default.not-recover c.in_default.not-check c.in_default.not-compact c.in_default.not-ship c.in_default.not-run c.in_default.not-sim c.in_default.not-follow in
     ap (λ n. line_found n (rows_of (found_of c.args.found.now))) is ∙ (λ i. Some (Load (sym c.seed_of.ensures i) (sym c.size_of.ensures.value i) (sym c.threads_of-in_default.ensures.value i)))

@@ -19,7 +19,7 @@ returns-in_err-rollers-clause-err g c = any_err _ c.from_residual-in_err-rollers
 pub returns-clause-ok : goal.returns-clause-ok
 returns-clause-ok g c =
     let h : Holding = log_held c.args.core.now in
-    let body = c.deref.ensures.value ∙ (c.in_ok-body.ensures.bytes ∙ ap spelling c.get.ensures) in
+    let body = c.deref.ensures.value ∙ (c.in_ok-body.ensures.bytes ∙ (λ j. spelling (c.shape.ensures j).version (c.get.ensures j))) in
     let pages = c.in_ok-stop.ensures.ok ∙ ap (λ (bytes : List ℕ). record h.pages { bodies = option_map (with_body (Some c.args.stop) 1 bytes) h.pages.bodies }) body in
     λ i. record h { pages = pages i }
 
@@ -28,3 +28,6 @@ returns-clause-boards g c = c.in_ok-rollers.ensures
 
 pub returns-clause-places : goal.returns-clause-places
 returns-clause-places g c = (refl, refl)
+
+pub encode-requires : goal.encode-requires
+encode-requires g c = rw (c.shape.ensures, c.get.ensures) c.requires.fits

@@ -5,7 +5,7 @@ use Rattle.hy_text.proofs.log_texts.put_all_judged.Goals as goal
 
 pub loop-at-preserved : goal.loop-at-preserved
 loop-at-preserved c =
-    numbered_written c.args.verdicts.now c.loop-at.at _ c.loop-at.out.items judged_text _ _ c.put_judged.new.out.items c.loop-at-test.true refl c.in_ok-put_judged.ensures c.loop-at.invariant
+    numbered_written c.args.verdicts.now c.loop-at.at _ c.loop-at.out.items 1 judged_text _ _ c.put_judged.new.out.items c.loop-at-test.true refl c.in_ok-put_judged.ensures c.loop-at.invariant
 
 pub returns : goal.returns
-returns c = all_numbered c.args.verdicts.now c.loop-at.at _ c.loop-at.out.items judged_text c.loop-at-test.false c.loop-at.invariant
+returns c = all_numbered c.args.verdicts.now c.loop-at.at _ c.loop-at.out.items 1 judged_text c.loop-at-test.false c.loop-at.invariant

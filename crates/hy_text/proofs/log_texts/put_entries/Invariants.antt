@@ -6,4 +6,4 @@ use Rattle.hy_text.proofs.log_texts.put_entries.Given as goal
 
 -- what was written so far, and what is left
 abbrev pub invariant-loop-at : goal.invariant-loop-at
-invariant-loop-at l = l.out.items ++ flat_map entry_text (enumerate_from (l.at + 1) (drop l.at l.entries)) ≡ l.initial.out.items ++ flat_map entry_text (enumerate_from 1 l.entries)
+invariant-loop-at l = l.out.items ++ flat_map (entry_text l.version) (enumerate_from (l.at + (l.from + 1)) (drop l.at l.entries)) ≡ l.initial.out.items ++ flat_map (entry_text l.version) (enumerate_from (l.from + 1) l.entries)

@@ -11,9 +11,9 @@ returns-then-late c =
     let earlier = c.args.earlier.now in
     let row : Row = record { key = 700; writer = 11; value = None } in
     let is : c.in_ok-put.field-0 ≡ put row_before row earlier = c.in_ok-put.ensures ∙ ap (put row_before row) c.in_ok-same.ensures.same in
-    subst (λ t. Later earlier t 10) (sym is) (later_put 10 earlier earlier row (later_same 10 earlier c.in_ok-same.ensures.valid.ordered c.requires) (omega arith))
+    subst (λ t. Later earlier t 10 0) (sym is) (later_put 10 0 earlier earlier row (later_same 10 0 earlier (omega arith) c.in_ok-same.ensures.valid.ordered c.requires) (omega arith))
 
 pub returns : goal.returns
 returns c =
     let earlier = c.args.earlier.now in
-    subst (λ t. Later earlier t 10) (sym c.in_ok-same.ensures.same) (later_same 10 earlier c.in_ok-same.ensures.valid.ordered c.requires)
+    subst (λ t. Later earlier t 10 0) (sym c.in_ok-same.ensures.same) (later_same 10 0 earlier (omega arith) c.in_ok-same.ensures.valid.ordered c.requires)

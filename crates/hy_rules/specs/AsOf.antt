@@ -1,0 +1,27 @@
+-- Programs that ask for a position: what becomes of them.
+use Rattle.std.specs.Prelude.{◌≡◌, ℕ, ◌<◌, List, Some, ⊤}
+use Rattle.std.specs.List.{AllByRecursion}
+use Rattle.hy_base.specs.declared.workload.Program.{Program}
+use Rattle.hy_base.specs.Script.{Workload}
+use Rattle.hy_rules.specs.Runs.{program_of, Ended, Ending, ByReading, ByEntryAt, ByFull, ByStop, ByPast, ByNotYet}
+
+-- the client's program of this number asks for this position
+pub record Asks (script : Workload) (client number pos : ℕ) : Type 0 where
+  pub program : Program
+  pub is : program_of script client number ≡ Some program
+  pub asks : program.as_of ≡ Some pos
+
+-- one that read did so at that position; one that was not begun asked for one below the least that its server kept, or above its board
+abbrev pub EndsAsAsked : ℕ → ℕ → Ending → Type 0
+EndsAsAsked pos snap ByReading = snap ≡ pos
+EndsAsAsked pos snap (ByEntryAt at) = ⊤
+EndsAsAsked pos snap ByFull = ⊤
+EndsAsAsked pos snap ByStop = ⊤
+EndsAsAsked pos snap (ByPast from) = pos < from
+EndsAsAsked pos snap (ByNotYet board) = board < pos
+
+abbrev pub IsAsAsked : Workload → Ended → Type 0
+IsAsAsked script e = (pos : ℕ) → Asks script e.client e.number pos → EndsAsAsked pos e.snap e.ending
+
+abbrev pub AreAsAsked : Workload → List Ended → Type 0
+AreAsAsked script done = AllByRecursion (IsAsAsked script) done
