@@ -23,8 +23,8 @@ Shape = collections.namedtuple("Shape", "group window cap version horizon", defa
 # points: ascending keys; spans: ascending (lo, hi); writes: ascending (key, bytes or None); whether it is at Snapshot isolation. A filler has client 0.
 Entry = collections.namedtuple("Entry", "server client snap points spans writes snapshot", defaults=(False,))
 Answer = collections.namedtuple("Answer", "status text log points spare", defaults=(None,))
-# keeps: how many of its last boards each server keeps.
-Script = collections.namedtuple("Script", "shape servers clients keeps", defaults=(1,))
+# keeps: how many of its last boards each server keeps. tables: how many tables it has.
+Script = collections.namedtuple("Script", "shape servers clients keeps tables", defaults=(1, 0))
 Client = collections.namedtuple("Client", "server programs")
 # as_of: the position that it asks for, or none.
 Program = collections.namedtuple("Program", "commands snapshot as_of", defaults=(False, None))
@@ -426,8 +426,8 @@ def read_point(device, shape):
     return Point(position, base, rows, flags)
 
 
-# What stands in a list of entries for one that was cut: no rule looks at it.
-CUT_ENTRY = Entry(1, 0, 0, (), (), ())
+# A filler. It also stands in a list of entries for one that was cut: no rule looks at that.
+FILLER = Entry(1, 0, 0, (), (), ())
 
 
 # ---- validation, by sets
@@ -528,10 +528,57 @@ def fold_of(shape, entries, point=None):
     return fold
 
 
-# ---- programs
+# ---- tables
+
+TABLE = 2**56
+INDEX = 2**55
+MOST_ROWS = 2**24
+MOST_ATTRIBUTES = 2**31
+MOST_TEXT = 200
+
 
 def is_number(text):
     return text.isdigit() and text.isascii() and (text == b"0" or text[:1] != b"0") and len(text) <= 20 and int(text) <= U64
+
+
+def row_key(table, row):
+    return table * TABLE + row
+
+
+def index_key(table, attribute, row):
+    return table * TABLE + INDEX + attribute * MOST_ROWS + row
+
+
+def attribute_of(value):
+    """The attribute of a row with this value (or none), where it is a row's."""
+    attribute, colon, text = (value or b"").partition(b":")
+    if colon and is_number(attribute) and int(attribute) < MOST_ATTRIBUTES and 1 <= len(text) <= MOST_TEXT:
+        return int(attribute)
+    return None
+
+
+def is_table_key(tables, key):
+    return TABLE <= key < (tables + 1) * TABLE
+
+
+def is_right(rows, key):
+    """Whether a key of a table is a row of the form of one and with its entry in the index, or an entry for a row with its attribute."""
+    table, rest = divmod(key, TABLE)
+    if rest < MOST_ROWS:
+        attribute = attribute_of(rows[key])
+        return attribute is not None and index_key(table, attribute, rest) in rows
+    if rest < INDEX:
+        return False
+    attribute, row = divmod(rest - INDEX, MOST_ROWS)
+    return rows[key] == b"-" and attribute_of(rows.get(row_key(table, row))) == attribute
+
+
+def table_fault(tables, rows):
+    """The least key of the tables that isn't right, or none."""
+    return min((key for key in rows if is_table_key(tables, key) and not is_right(rows, key)), default=None)
+
+
+# ---- programs
 
 
 Effects = collections.namedtuple("Effects", "answers points spans writes")
@@ -547,9 +594,20 @@ def execute(program, rows):
         points.add(key)
         return rows.get(key)
 
+    def scan(lo, hi, most):
+        seen = {key: value for key, value in {**rows, **writes}.items() if value is not None and lo <= key <= hi}
+        pairs = sorted(seen.items())[:most]
+        spans.add((lo, pairs[-1][0] if len(pairs) == most else hi))
+        answers.append(b"rows %d" % len(pairs))
+        return pairs
+
+    def delete_entry(table, row, attribute):
+        if attribute is not None:
+            writes[index_key(table, attribute, row)] = None
+
     for name, *args in program.commands:
-        if name == "get":
-            value = read(args[0])
+        if name in ("get", "cell"):
+            value = read(args[0] if name == "get" else row_key(*args))
             answers.append(b"none" if value is None else b"value " + value)
         elif name == "put":
             writes[args[0]] = args[1]
@@ -568,13 +626,25 @@ def execute(program, rows):
                 continue
             writes[args[0]] = b"%d" % total
             answers.append(b"sum %d" % total)
+        elif name == "scan":
+            answers += [b"pair %d %s" % pair for pair in scan(*args)]
+        elif name == "row":
+            table, row, attribute, text = args
+            had = attribute_of(read(row_key(table, row)))
+            if had != attribute:
+                delete_entry(table, row, had)
+            writes[row_key(table, row)] = b"%d:%s" % (attribute, text)
+            writes[index_key(table, attribute, row)] = b"-"
+            answers.append(b"ok")
+        elif name == "unrow":
+            found = read(row_key(*args))
+            if found is not None:
+                writes[row_key(*args)] = None
+                delete_entry(*args, attribute_of(found))
+            answers.append(b"none" if found is None else b"ok")
         else:
-            lo, hi, most = args
-            seen = {key: value for key, value in {**rows, **writes}.items() if value is not None and lo <= key <= hi}
-            pairs = sorted(seen.items())[:most]
-            spans.add((lo, pairs[-1][0] if len(pairs) == most else hi))
-            answers.append(b"rows %d" % len(pairs))
-            answers += [b"pair %d %s" % pair for pair in pairs]
+            table, attribute, most = args
+            answers += [b"id %d" % (key % MOST_ROWS) for key, _ in scan(index_key(table, attribute, 0), index_key(table, attribute, MOST_ROWS - 1), most)]
     if program.snapshot:
         points, spans = set(), set()
     return Effects(answers, tuple(sorted(points)), tuple(sorted(spans)), tuple(sorted(writes.items())))
@@ -595,10 +665,15 @@ def lines_of(source):
     return lines
 
 
-# For each first word: the kinds of its other words. n is a number, v a value.
+# For each first word: the kinds of its other words. n is a number, v a value, x the text of a row.
 COMMANDS = {b"get": "n", b"put": "nv", b"del": "n", b"add": "nn", b"scan": "nnn"}
+TABLE_COMMANDS = {b"row": "nnnx", b"unrow": "nn", b"cell": "nn", b"find": "nnn"}
+READS = (b"get", b"scan", b"cell", b"find")
+MOST_VALUE = {"v": 256, "x": MOST_TEXT}
+# As how many commands one counts.
+COUNTS = {"row": 3, "unrow": 2}
 EVENTS = {b"b": "n", b"a": "n", b"e": "n", b"f": "n", b"p": "n", b"r": "nn", b"t": "nn"}
-WORDS = {b"shape": "nnn", b"servers": "n", b"client": "n", b"begin": "", b"end": "", b"schedule": "", **COMMANDS, **EVENTS}
+WORDS = {b"shape": "nnn", b"servers": "n", b"tables": "n", b"client": "n", b"begin": "", b"end": "", b"schedule": "", **COMMANDS, **TABLE_COMMANDS, **EVENTS}
 
 
 class ScriptReader:
@@ -609,6 +684,7 @@ class ScriptReader:
         self.state = "shape"
         self.shape = self.servers = None
         self.keeps = 1
+        self.tables = 0
         self.clients = []
         self.program = None
         self.events = []
@@ -619,14 +695,22 @@ class ScriptReader:
         if self.state == "events":
             return set(EVENTS)
         if self.program is not None:
-            return {b"end", *(COMMANDS if self.program.as_of is None else (b"get", b"scan"))}
-        return {b"client", *([b"begin"] if self.clients else []), *([b"schedule"] if self.simulated else [])}
+            commands = {*COMMANDS, *(TABLE_COMMANDS if self.tables else ())}
+            return {b"end", *(commands if self.program.as_of is None else commands.intersection(READS))}
+        may_have_tables = not self.tables and not self.clients
+        return {b"client", *([b"tables"] if may_have_tables else []), *([b"begin"] if self.clients else []), *([b"schedule"] if self.simulated else [])}
 
     def range_fault(self, word, numbers):
         if word == b"shape":
             return not is_good(Shape(*numbers))
         if word == b"servers":
             return not (1 <= numbers[0] <= 8 and all(1 <= keeps <= 64 for keeps in numbers[1:]))
+        if word == b"tables":
+            return not 1 <= numbers[0] <= 255
+        if word in TABLE_COMMANDS:
+            return self.table_range_fault(word, *numbers)
+        if word in (b"put", b"del", b"add"):
+            return is_table_key(self.tables, numbers[0])
         if word == b"begin":
             return any(asked % self.shape.group or asked > self.shape.cap for asked in numbers)
         if word in (b"client", b"p"):
@@ -641,12 +725,19 @@ class ScriptReader:
             return not (1 <= numbers[0] <= 4 and numbers[1] <= 2)
         return False
 
+    def table_range_fault(self, word, table, second, third=0, *_):
+        """Whether the number of a table, a row, an attribute or of rows is out of its range."""
+        row, attribute = (0, second) if word == b"find" else (second, third)
+        return not (1 <= table <= self.tables and row < MOST_ROWS and attribute < MOST_ATTRIBUTES and (word != b"find" or 1 <= third <= 1000))
+
     def count_fault(self, word, numbers):
         if word == b"client":
             return sum(client.server == numbers[0] for client in self.clients) == 16
         if word == b"begin":
             return len(self.clients[-1].programs) == 10000
-        return word in COMMANDS and len(self.program.commands) == 64
+        if word not in COMMANDS and word not in TABLE_COMMANDS:
+            return False
+        return sum(COUNTS.get(name, 1) for name in (word.decode(), *(command[0] for command in self.program.commands))) > 64
 
     def read(self, number, line):
         word = line.split(b" ")[0]
@@ -670,7 +761,7 @@ class ScriptReader:
             raise Refused(number, "form")
         if any(kind == "n" and not is_number(text) for kind, text in zip(kinds, words)):
             raise Refused(number, "number")
-        if any(kind == "v" and not (len(text) <= 256 and all(33 <= byte <= 126 for byte in text)) for kind, text in zip(kinds, words)):
+        if any(kind != "n" and not (len(text) <= MOST_VALUE[kind] and all(33 <= byte <= 126 for byte in text)) for kind, text in zip(kinds, words)):
             raise Refused(number, "value")
         fields = [int(text) if kind == "n" else text for kind, text in zip(kinds, words)]
         if self.range_fault(word, fields):
@@ -689,6 +780,8 @@ class ScriptReader:
         elif word == b"servers":
             self.servers, *keeps = fields
             self.keeps, self.state = (keeps or [1])[0], "clients"
+        elif word == b"tables":
+            self.tables = fields[0]
         elif word == b"client":
             self.clients.append(Client(fields[0], []))
         elif word == b"begin":
@@ -715,7 +808,7 @@ def read_source(source, simulated):
             reader.read(number, line)
     if reader.state in ("shape", "servers") or reader.program is not None:
         raise Refused(len(lines) + 1, "missing")
-    return Script(reader.shape, reader.servers, reader.clients, reader.keeps), reader.events
+    return Script(reader.shape, reader.servers, reader.clients, reader.keeps, reader.tables), reader.events
 
 
 # ---- runs
@@ -1056,9 +1149,11 @@ class Call:
     def run(self, options, source):
         script, _ = read_source(source, False)
         _, found, page = self.opened(script.shape)
-        entries = [CUT_ENTRY] * self.cut + found
+        entries = [FILLER] * self.cut + found
         point = self.read_point(script.shape, len(entries)) if "--point" in options else None
         self.not_behind(point)
+        if script.tables:
+            self.has_sound_tables(script, entries, point)
         if sum(bool(client.programs) for client in script.clients) > 1:
             raise ValueError("the answer of this run is not determined")
         core = Core(script, entries, point)
@@ -1068,6 +1163,15 @@ class Call:
         if "--save" in options:
             self.points = saved(self.points or b"", script.shape, point_of(script.shape, core.fold, core.length))
         return run_text(core)
+
+    def has_sound_tables(self, script, entries, point):
+        """Looks at the rows of the whole groups, and then at those that there would be once fillers completed the last one."""
+        fillers = [FILLER] * (-len(entries) % script.shape.group)
+        for found in (entries[:len(entries) // script.shape.group * script.shape.group], entries + fillers):
+            rows = {key: value for key, _, value in fold_of(script.shape, found, point).live(len(found))}
+            fault = table_fault(script.tables, rows)
+            if fault is not None:
+                raise Fault(13, "table key %d" % fault)
 
     def not_behind(self, point):
         base = point.base if point else 0
