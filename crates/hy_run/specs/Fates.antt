@@ -19,6 +19,7 @@ use Rattle.hy_rules.specs.Moves.{State, MayAdd, is_stop}
 use Rattle.hy_rules.specs.Recovery.{recovered}
 use Rattle.hy_rules.specs.Runs.{is_finished, opening_of, own_entry, run, setting_of}
 use Rattle.hy_rules.specs.SavedPoints.{IsFit, IsLeftBySave}
+use Rattle.hy_rules.specs.TableRuns.{KeepsTables, OpensSound}
 use Rattle.hy_run.specs.Over.{HasFailed, IsOnlyRead, LeavesEver, LeavesNow, Over}
 use Rattle.hy_run.specs.declared.status.RunOptions.{RunOptions}
 use Rattle.hy_run.specs.declared.status.Status.{Status}
@@ -76,7 +77,7 @@ pub record WereAsked (g : Growth) (start : Option Checkpoint) : Type 0 where
   pub moves : LeadPast g.script g.from g.found front state
   pub may : AllByRecursion (λ entry. (client : ℕ) × MayAdd (setting_of g.script) state (Append client) (entry ∷ []) × OnEach g start (λ log before. own_entry g.script (swapped before state) client ≡ entry ∷ [])) g.batch ⊎ ((server : ℕ) × MayAdd (setting_of g.script) state (Pad server) g.batch)
 
--- Moves of the script's clients that are no stops lead from the log that was found to one that begins with it. On each whole log they are a run of the script as far as it goes: each entry is what its client's program leaves on its snapshot. The log and the batch are lawful together. There is a batch only where the device failed, and it was asked on the way.
+-- Moves of the script's clients that are no stops lead from the log that was found to one that begins with it. On each whole log they are a run of the script as far as it goes: each entry is what its client's program leaves on its snapshot, and the tables, which were sound, stay so. The log and the batch are lawful together. There is a batch only where the device failed, and it was asked on the way.
 pub record IsGrowth (log : Over) (g : Growth) (start : Option Checkpoint) : Type 0 where
   pub was_found : IsTrue log.tells → HasFound log.before.seen (header_of_growth g) g.found
   pub begins : IsPrefix g.found g.entries
@@ -84,6 +85,8 @@ pub record IsGrowth (log : Over) (g : Growth) (start : Option Checkpoint) : Type
   pub moves : LeadPast g.script g.from g.found g.events g.end
   pub calm : list_any is_stop g.events ≡ false
   pub runs : OnEach g start (λ log before. run g.script (opening_of g.script log) g.events ≡ Some (swapped before g.end))
+  pub opens : OnEach g start (λ log before. OpensSound g.script log)
+  pub tables : OnEach g start (λ log before. KeepsTables g.script log g.events (swapped before g.end))
   pub lawful : AreLawfulPast g.script.shape g.from (g.entries ++ g.batch)
   pub few : length g.batch ≤ largest_batch
   pub asked : WereAsked g start
@@ -162,7 +165,7 @@ PointFailsAt options (opened header bodies) = options.from_point ≡ true
 PointFailsAt options (grown g) = (options.save ≡ true) × (is_finished g.script g.end ≡ true) × (g.batch ≡ [])
 PointFailsAt options _ = ⊥
 
--- An answer without a text tells how far the call came, by its options and whether it makes a copy: the words, the source and the script or the stream come before the log, its pages and its shape before its entries, these before the point, which is looked at where it was asked for, and the point before the run. Memory may run out at any place.
+-- An answer without a text tells how far the call came, by its options and whether it makes a copy: the words, the source and the script or the stream come before the log, its pages and its shape before its entries, these before the point, which is looked at where it was asked for, the point before the tables, and these before the run. Memory may run out at any place.
 abbrev pub Fits : RunOptions → Bool → Status → Over → Fate → Type 0
 Fits options copies status.Usage points fate = fate ≡ uncalled
 Fits options copies (status.Script line why) points fate = fate ≡ uncalled
@@ -176,6 +179,7 @@ Fits options copies (status.Ahead point log) points fate = WasOpened fate × (op
 Fits options copies (status.Behind base from) points fate = WasOpened fate
 Fits options copies (status.NothingToCut from base) points fate = (fate ≡ unopened) ⊎ WasOpened fate
 Fits options copies status.SpareInUse points fate = WasOpened fate
+Fits options copies (status.Table key) points fate = WasOpened fate
 Fits options copies (status.Device which.Spare) points fate = WasOpened fate
 Fits options copies (status.Device which.Log) points fate = LogFailsAt copies points fate
 Fits options copies (status.Device which.Points) points fate = PointFailsAt options fate

@@ -18,7 +18,7 @@ use Rattle.hy_run.specs.Inspection.{IsReport, IsUntold, report_refused, untold}
 use Rattle.hy_run.specs.Loading.{IsLoadText}
 use Rattle.hy_run.specs.Output.{IsOutput, IsRefused}
 use Rattle.hy_run.specs.Over.{LeavesEver, Over}
-use Rattle.hy_run.specs.Running.{CanBeRun, IsForScript, IsLogRefused, IsRunText, IsScriptRefused, refused_log}
+use Rattle.hy_run.specs.Running.{CanBeRun, IsForScript, IsLogRefused, IsRunText, IsScriptRefused, RefusesLog}
 use Rattle.hy_formats.specs.declared.damage.BadFrame.{BadFrame}
 use Rattle.hy_run.specs.Source.{read_source}
 use Rattle.hy_run.specs.Streams.{IsFollowed, IsStreamRefused, read_stream}
@@ -105,7 +105,7 @@ meaning (runs options) = record {
   stream_refused = λ told bad. ⊥;
   refuses_stream = λ bytes bad. ⊥;
   log_refused = λ told log points spare answer. IsLogRefused options told log points answer;
-  refuses_log = λ told log points spare answer. (bytes : Text) × (input : Input) × (told ≡ Some bytes) × (read_input bytes false ≡ Ok input) × (refused_log input.script.shape options.from_point log points ≡ Some answer);
+  refuses_log = λ told log points spare answer. (bytes : Text) × (input : Input) × (told ≡ Some bytes) × (read_input bytes false ≡ Ok input) × RefusesLog options input.script log points answer;
   leaves_spare = λ log points spare. spare.uncalled;
   may_leave = λ told log fate. IsForScript told fate;
 }

@@ -5,11 +5,11 @@ ghost use Rattle.std.specs.Prelude.{◌≡◌, ◌∷◌, ◌+◌, ◌-◌, ◌+
 ghost use Rattle.std.specs.List.{enumerate_from};
 ghost use Rattle.hy_base.specs.Spelling.{line};
 ghost use Rattle.hy_formats.specs.EntryFormat.{isolation_code};
-ghost use Rattle.hy_formats.specs.Texts.{ahead_fault_text, behind_fault_text, check_text, compact_fault_text, compact_text, config_fault_text, device_fault_text, dump_text, entry_fault_text, entry_text, frame_fault_text, from_words, isolation_words, judged_text, page_fault_text, point_fault_text, row_text, shape_words, spare_fault_text, version_words, waiting_text};
+ghost use Rattle.hy_formats.specs.Texts.{ahead_fault_text, behind_fault_text, check_text, compact_fault_text, compact_text, config_fault_text, device_fault_text, dump_text, entry_fault_text, entry_text, frame_fault_text, from_words, isolation_words, judged_text, page_fault_text, point_fault_text, row_text, shape_words, spare_fault_text, table_fault_text, version_words, waiting_text};
 ghost use Rattle.hy_text.specs.LineWords.{spaced};
 
 use crate::texts::{Word, put_line, put_rows, put_verdict, put_words};
-use hy_base::{Entry, EntryKind, Intention, Isolation, Pos, Row, Shape, Verdict, tells_isolation};
+use hy_base::{Entry, EntryKind, Intention, Isolation, Key, Pos, Row, Shape, Verdict, tells_isolation};
 use hy_formats::Header;
 use std::alloc::{AllocError, Global};
 
@@ -360,6 +360,15 @@ pub fn frame_line(alloc: Global, place: u64, why: &str) -> Result<Vec<u8>, Alloc
     let mut out = Vec::new(alloc);
     let words = [Word::Number(place), Word::Plain(why.as_bytes())];
     put_line(&mut out, b"hyder: frame at", &words)?;
+    Ok(out)
+}
+
+/// The line for a log whose tables aren't sound as a run opens: the least key at fault.
+pub fn table_line(alloc: Global, key: Key) -> Result<Vec<u8>, AllocError>
+    ensures { IfOk result (λ text. text.items ≡ table_fault_text key) }
+{
+    let mut out = Vec::new(alloc);
+    put_line(&mut out, b"hyder: table key", &[Word::Number(key)])?;
     Ok(out)
 }
 
