@@ -1118,6 +1118,20 @@ def find_entries(shape, bodies, cut=0):
     return entries
 
 
+def opening_fault(script, entries, point=None):
+    """The key of the tables for which a script is refused on a log, or none: in the rows of the whole groups, or else in those that
+    there would be once fillers completed the last one."""
+    if script.tables == 0:
+        return None
+    group = script.shape.group
+    for found in (entries[:len(entries) // group * group], entries + [FILLER] * (-len(entries) % group)):
+        rows = {key: value for key, _, value in fold_of(script.shape, found, point).live(len(found))}
+        fault = table_fault(script.tables, rows)
+        if fault is not None:
+            return fault
+    return None
+
+
 class Call:
     """One call of the program. What it does to the files shows in `log`, `points` and `spare`, which are none where there is no file."""
 
@@ -1152,8 +1166,9 @@ class Call:
         entries = [FILLER] * self.cut + found
         point = self.read_point(script.shape, len(entries)) if "--point" in options else None
         self.not_behind(point)
-        if script.tables:
-            self.has_sound_tables(script, entries, point)
+        fault = opening_fault(script, entries, point)
+        if fault is not None:
+            raise Fault(13, "table key %d" % fault)
         if sum(bool(client.programs) for client in script.clients) > 1:
             raise ValueError("the answer of this run is not determined")
         core = Core(script, entries, point)
@@ -1163,15 +1178,6 @@ class Call:
         if "--save" in options:
             self.points = saved(self.points or b"", script.shape, point_of(script.shape, core.fold, core.length))
         return run_text(core)
-
-    def has_sound_tables(self, script, entries, point):
-        """Looks at the rows of the whole groups, and then at those that there would be once fillers completed the last one."""
-        fillers = [FILLER] * (-len(entries) % script.shape.group)
-        for found in (entries[:len(entries) // script.shape.group * script.shape.group], entries + fillers):
-            rows = {key: value for key, _, value in fold_of(script.shape, found, point).live(len(found))}
-            fault = table_fault(script.tables, rows)
-            if fault is not None:
-                raise Fault(13, "table key %d" % fault)
 
     def not_behind(self, point):
         base = point.base if point else 0
