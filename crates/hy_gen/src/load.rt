@@ -40,7 +40,7 @@ pub fn generate(alloc: Global, seed: u64, size: u32) -> Result<Load, AllocError>
         version: 1,
         horizon: None,
     };
-    let script = Script::new(shape, SERVERS, KEEPS, clients(alloc, seed, size)?);
+    let script = Script::new(shape, SERVERS, KEEPS, 0, clients(alloc, seed, size)?);
     let readers = readers(alloc, seed, size)?;
     Ok(Load {
         script,
