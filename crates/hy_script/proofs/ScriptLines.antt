@@ -24,7 +24,7 @@ use Rattle.hy_script.proofs.FieldLemmas.{no_form, one_field, two_fields}
 
 -- the place after a line of servers
 abbrev pub listing_of : Shape → ToldServers → Place
-listing_of shape told = Listing (record { shape = shape; servers = told.servers; keeps = told.keeps; clients = [] })
+listing_of shape told = Listing (record { shape = shape; servers = told.servers; keeps = told.keeps; tables = 0; clients = [] })
 
 servers_test : (t : Bool) (shape : Shape) (told : ToldServers) → judged_words (makes_if ((t, Range) ∷ []) (listing_of shape told)) ≡ leading (listing_of shape) (if t then Ok told else Err Range)
 servers_test true shape told = refl

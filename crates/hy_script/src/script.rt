@@ -366,6 +366,7 @@ fn schedule_of(fields: Fields<'_>) -> Result<ListingLine, Why>
 fn scan_of(fields: Fields<'_>) -> Result<Command, Why>
     ensures exact { (words : List (List ℕ)) → HasFields fields.entry words → result ≡ scan_fields words }
     ensures lawful { IfOk result (λ command. IsCommand command × IsReading command) }
+    ensures fits { (tables : ℕ) → IfOk result (FitsTables tables) }
 {
     let (lo, hi, n) = three_numbers(fields)?;
     if n < 1 || n > 1000 {
