@@ -1,5 +1,5 @@
 //! The lines of a script.
-ghost use Rattle.std.specs.Prelude.{◌≡◌, ◌<◌, ◌≤◌, ℕ, not, Bool, true, false, List, Ok, length, IfOk, IfSome};
+ghost use Rattle.std.specs.Prelude.{◌≡◌, ◌<◌, ◌≤◌, ℕ, not, nat_lt, Bool, true, false, List, Ok, length, IfOk, IfSome};
 ghost use Rattle.hy_base.specs.declared.workload.Mode.{Mode};
 ghost use Rattle.hy_base.specs.Entry.{is_told};
 ghost use Rattle.hy_base.specs.Script.{FitsTables, IsCommand, IsReading, client_count};
@@ -613,7 +613,7 @@ fn read_writing_line(
     fields: Fields<'_>,
 ) -> Result<ProgramLine, LineError>
     requires { count ≤ 64 }
-    ensures exact { (words : List (List ℕ)) → HasFields fields.entry words → TellsField result (writing_line tables count word.now words) }
+    ensures exact { (words : List (List ℕ)) → HasFields fields.entry words → TellsField result (writing_line (nat_lt 0 tables) tables count word.now words) }
     ensures fits { IfOk result (IsNextLine tables false count) }
 {
     if word == b"put".as_slice() {
