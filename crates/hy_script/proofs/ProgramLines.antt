@@ -51,10 +51,10 @@ valued : (s r t : Bool) (script : Workload) (program : Program) (c : Command)
 valued true r t script program c = ranged r t script program c
 valued false r t script program c = refl
 
-scanned : (r o t : Bool) (script : Workload) (program : Program) (c : Command)
-    → judged_words (makes_if ((r, Range) ∷ (o, Order) ∷ (t, Count) ∷ []) (Programming script (gains_command c program)))
-    ≡ leading (after_program_line script program) (and_then (if r then (if o then Ok c else Err Order) else Err Range) (λ d. if t then Ok (Next d) else Err Count))
-scanned true true t script program c = counted t script program c
+scanned : (r o : Bool) (t : Command → Bool) (script : Workload) (program : Program) (c : Command)
+    → judged_words (makes_if ((r, Range) ∷ (o, Order) ∷ (t c, Count) ∷ []) (Programming script (gains_command c program)))
+    ≡ leading (after_program_line script program) (and_then (if r then (if o then Ok c else Err Order) else Err Range) (λ d. if t d then Ok (Next d) else Err Count))
+scanned true true t script program c = counted (t c) script program c
 scanned true false t script program c = refl
 scanned false o t script program c = refl
 
@@ -62,13 +62,19 @@ joined : {A B C : Type 0} (read : Result A Why) (f : A → Result B Why) (g : B 
 joined (Ok a) f g = refl
 joined (Err why) f g = refl
 
+-- this follows where a word is none of these
+abbrev NoneOf : Text → List Text → Type 0 → Type 0
+NoneOf word [] P = P
+NoneOf word (name ∷ names) P = bytes_eq word name ≡ false → NoneOf word names P
+
+by_name : (P : Text → Type 0) (word name : Text) (t : Bool) → bytes_eq word name ≡ t → P name → (bytes_eq word name ≡ false → P word) → P word
+by_name P word name true e is isnt = subst P (sym ((bytes_eq-Decides word name).0 e)) is
+by_name P word name false e is isnt = isnt e
+
 -- a word is one of these, or none of them
-pub by_names : (P : Text → Type 0) (word : Text) (names : List Text) → AllByRecursion P names → (AllByRecursion (λ name. bytes_eq word name ≡ false) names → P word) → P word
-by_names P word [] each none = none tt
-by_names P word (name ∷ names) each none = by (bytes_eq word name) refl where
-  by : (t : Bool) → bytes_eq word name ≡ t → P word
-  by true e = subst P (sym ((bytes_eq-Decides word name).0 e)) each.0
-  by false e = by_names P word names each.1 (λ others. none (e, others))
+by_names : (P : Text → Type 0) (word : Text) (names : List Text) → AllByRecursion P names → NoneOf word names (P word) → P word
+by_names P word [] each none = none
+by_names P word (name ∷ names) each none = by_name P word name (bytes_eq word name) refl each.0 (λ e. by_names P word names each.1 (none e))
 
 -- the lines of a program, where there are tables or aren't, and where it only reads or may also write
 module _ (script : Workload) (program : Program) (fields : List Text) where
@@ -108,7 +114,7 @@ module _ (script : Workload) (program : Program) (fields : List Text) where
   scan_read : read_as (and_then (scan_fields fields) (one_more count)) (ThreeNumbers "scan" (λ lo hi n. gains script program (Scan lo hi n) ((is_within 1 1000 n, Range) ∷ (nat_le lo hi, Order) ∷ [])))
   scan_read = sym (read_three "scan" _ fields
       ∙ over _ (three_numbers fields) (λ p. gains script program (Scan p.0 p.1 p.2) ((is_within 1 1000 p.2, Range) ∷ (nat_le p.0 p.1, Order) ∷ [])) (λ p. and_then (one_scan p) (one_more count))
-      (λ p. scanned (is_within 1 1000 p.2) (nat_le p.0 p.1) (room (Scan p.0 p.1 p.2)) script program (Scan p.0 p.1 p.2))
+      (λ p. scanned (is_within 1 1000 p.2) (nat_le p.0 p.1) room script program (Scan p.0 p.1 p.2))
       ∙ ap (leading (after_program_line script program)) (joined (three_numbers fields) one_scan (one_more count)))
 
   end_read : read_as (and_then (no_fields fields) (λ u. Ok End)) (end_form script program)
@@ -200,11 +206,11 @@ module _ (script : Workload) (program : Program) (fields : List Text) where
   all_lead : (has_tables reads : Bool) → AllByRecursion (Leads has_tables reads) names
   all_lead t r = (get_leads t r, (scan_leads t r, (end_leads t r, (cell_leads t r, (find_leads t r, (put_leads t r, (del_leads t r, (add_leads t r, (row_leads t r, (unrow_leads t r, tt))))))))))
 
-  of_no_name : (has_tables reads : Bool) (word : Text) → AllByRecursion (λ name. bytes_eq word name ≡ false) names → Leads has_tables reads word
-  of_no_name true true word n = rw (n.0, n.1, n.2, n.3, n.4) refl
-  of_no_name true false word n = rw (n.0, n.1, n.2, n.3, n.4, n.5, n.6, n.7, n.8, n.9) refl
-  of_no_name false true word n = rw (n.0, n.1, n.2) refl
-  of_no_name false false word n = rw (n.0, n.1, n.2, n.5, n.6, n.7) refl
+  of_no_name : (has_tables reads : Bool) (word : Text) → NoneOf word names (Leads has_tables reads word)
+  of_no_name true true word = λ a b c d e f g h i j. rw (a, b, c, d, e) refl
+  of_no_name true false word = λ a b c d e f g h i j. rw (a, b, c, d, e, f, g, h, i, j) refl
+  of_no_name false true word = λ a b c d e f g h i j. rw (a, b, c) refl
+  of_no_name false false word = λ a b c d e f g h i j. rw (a, b, c, f, g, h) refl
 
   line_leads : (has_tables reads : Bool) (word : Text) → Leads has_tables reads word
   line_leads t r word = by_names (Leads t r) word names (all_lead t r) (of_no_name t r word)
@@ -382,15 +388,15 @@ module _ (number : ℕ) (script : Workload) (fields : List Text) where
   abbrev listing_names : List Text
   listing_names = codes "client" ∷ codes "tables" ∷ codes "begin" ∷ codes "schedule" ∷ []
 
-  none_leads : (sim free some : Bool) (word : Text) → AllByRecursion (λ name. bytes_eq word name ≡ false) listing_names → Lists sim free some word
-  none_leads true true true word n = rw (n.0, n.1, n.2, n.3) refl
-  none_leads true true false word n = rw (n.0, n.1, n.3) refl
-  none_leads true false true word n = rw (n.0, n.2, n.3) refl
-  none_leads true false false word n = rw (n.0, n.3) refl
-  none_leads false true true word n = rw (n.0, n.1, n.2) refl
-  none_leads false true false word n = rw (n.0, n.1) refl
-  none_leads false false true word n = rw (n.0, n.2) refl
-  none_leads false false false word n = rw n.0 refl
+  none_leads : (sim free some : Bool) (word : Text) → NoneOf word listing_names (Lists sim free some word)
+  none_leads true true true word = λ a b c d. rw (a, b, c, d) refl
+  none_leads true true false word = λ a b c d. rw (a, b, d) refl
+  none_leads true false true word = λ a b c d. rw (a, c, d) refl
+  none_leads true false false word = λ a b c d. rw (a, d) refl
+  none_leads false true true word = λ a b c d. rw (a, b, c) refl
+  none_leads false true false word = λ a b c d. rw (a, b) refl
+  none_leads false false true word = λ a b c d. rw (a, c) refl
+  none_leads false false false word = λ a b c d. rw a refl
 
   word_leads : (sim free some : Bool) (word : Text) → Lists sim free some word
   word_leads s f c word =

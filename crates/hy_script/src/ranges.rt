@@ -21,7 +21,6 @@ const ATTRIBUTE_LIMIT: u64 = 1 << 31;
 const TABLE_KEYS: Key = 1 << 56;
 
 /// Whether a key belongs to one of so many tables.
-#[tactic(auto, using(crate::proofs::TableLines::key_of_table))]
 pub fn is_table_key(tables: u8, key: Key) -> bool
     ensures { result ≡ is_table_key tables key }
 {
