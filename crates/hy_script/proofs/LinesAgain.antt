@@ -26,7 +26,6 @@ use Rattle.hy_script.specs.ScriptLaws.{FitsFields}
 use Rattle.hy_script.specs.ScriptFields.{tables_fields, begin_fields, one_more_program, listing_line, mode_fields, number_within, one_more, one_more_if, put_fields, del_fields, add_fields, command_fields, program_line, servers_line, servers_numbers, servers_within, shape_line, shape_numbers, good_shape}
 use Rattle.hy_script.specs.ScriptSpelling.{asked_fields, begin_words, command_words, horizon_fields, servers_words, spelled_shape, version_fields}
 use Rattle.hy_script.specs.declared.script.ToldShape.{ToldShape}
-use Rattle.hy_script.specs.declared.script.ListingLine.{ListingLine}
 use Rattle.hy_script.specs.declared.script.ListingLine.TheVariants.{Tables, Client, Begin, Schedule}
 use Rattle.hy_script.specs.declared.script.ProgramLine.{ProgramLine}
 use Rattle.hy_script.specs.declared.script.ProgramLine.TheVariants.{Next}

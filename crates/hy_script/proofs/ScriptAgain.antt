@@ -171,7 +171,6 @@ command_speech tables (Scan lo hi n) few fits lawful there = record {
   visible = (refl, (visible_decimal lo (omega (arith, fits, lawful.0)), (visible_decimal hi fits, (visible_decimal n (omega (arith, lawful.1.at_most)), tt))));
   says_some = refl;
 }
-
 command_speech tables (Row table row attribute text) few fits lawful there = record {
   visible = (
     refl,

@@ -1,5 +1,5 @@
 -- Lines of scripts with tables, read.
-use Rattle.std.proofs.Common.{◌≡◌, ℕ, ◌+◌, ◌≤◌, Bool, true, false, List, [], ◌∷◌, ◌++◌, length, nat_le, refl}
+use Rattle.std.proofs.Common.{◌≡◌, ℕ, false, List, [], ◌∷◌, ◌++◌, refl}
 use Rattle.std.specs.Fmt.{digits}
 use Rattle.std.specs.Prelude.{None, Ok, Err, codes, replicate}
 use Rattle.hy_base.specs.declared.layout.Shape.{Shape}
@@ -9,8 +9,7 @@ use Rattle.hy_base.specs.declared.workload.Command.TheVariants.{Get, Put, Del, R
 use Rattle.hy_base.specs.declared.record.Isolation.TheVariants.{Serializable}
 use Rattle.hy_base.specs.declared.workload.Program.{Program}
 use Rattle.hy_base.specs.Script.{Workload}
-use Rattle.hy_base.specs.Spelling.{Text}
-use Rattle.hy_script.specs.Grammar.{Shaped, Listing, Programming, plain_mode, mode_at, begun, gains_command, with_tables}
+use Rattle.hy_script.specs.Grammar.{Shaped, Listing, Programming, mode_at, begun, gains_command}
 use Rattle.hy_script.specs.ScriptReading.{place_after}
 use Rattle.hy_script.specs.declared.why.Why.TheVariants.{Word, Form, Number, Value, Range, Count}
 

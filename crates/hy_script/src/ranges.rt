@@ -49,11 +49,7 @@ pub fn is_search(tables: u8, table: u64, attribute: u64, n: u64) -> bool
     ensures exact { result ≡ is_search tables table attribute n }
     ensures within { result ≡ true → IsWithin 1 tables table × (attribute < attribute_limit) × IsWithin 1 1000 n }
 {
-    1 <= table
-        && table <= tables as u64
-        && attribute < ATTRIBUTE_LIMIT
-        && 1 <= n
-        && n <= 1000
+    1 <= table && table <= tables as u64 && attribute < ATTRIBUTE_LIMIT && 1 <= n && n <= 1000
 }
 
 /// How many commands a command counts as.

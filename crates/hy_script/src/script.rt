@@ -23,7 +23,9 @@ use crate::words::{
     Fields, cut_fields, four_numbers, no_fields, number_and_text, one_number, three_numbers,
     three_numbers_and_text, two_numbers,
 };
-use hy_base::{Client, Command, Isolation, Key, Mode, Pos, Shape, Value, ValueError, tells_isolation};
+use hy_base::{
+    Client, Command, Isolation, Key, Mode, Pos, Shape, Value, ValueError, tells_isolation,
+};
 use std::alloc::{AllocError, Global};
 
 /// Why a line was not read.
