@@ -21,7 +21,6 @@ const ATTRIBUTE_LIMIT: u64 = 1 << 31;
 const TABLE_KEYS: Key = 1 << 56;
 
 /// Whether a key belongs to one of so many tables.
-#[tactic(auto, using(crate::proofs::TableLines::key_of_table))]
 pub fn is_table_key(tables: u8, key: Key) -> bool
     ensures { result ≡ is_table_key tables key }
 {
@@ -50,11 +49,7 @@ pub fn is_search(tables: u8, table: u64, attribute: u64, n: u64) -> bool
     ensures exact { result ≡ is_search tables table attribute n }
     ensures within { result ≡ true → IsWithin 1 tables table × (attribute < attribute_limit) × IsWithin 1 1000 n }
 {
-    1 <= table
-        && table <= tables as u64
-        && attribute < ATTRIBUTE_LIMIT
-        && 1 <= n
-        && n <= 1000
+    1 <= table && table <= tables as u64 && attribute < ATTRIBUTE_LIMIT && 1 <= n && n <= 1000
 }
 
 /// How many commands a command counts as.
