@@ -14,11 +14,9 @@ pub record Asks (script : Workload) (client number pos : ℕ) : Type 0 where
 -- one that read did so at that position; one that was not begun asked for one below the least that its server kept, or above its board
 abbrev pub EndsAsAsked : ℕ → ℕ → Ending → Type 0
 EndsAsAsked pos snap ByReading = snap ≡ pos
-EndsAsAsked pos snap (ByEntryAt at) = ⊤
-EndsAsAsked pos snap ByFull = ⊤
-EndsAsAsked pos snap ByStop = ⊤
 EndsAsAsked pos snap (ByPast from) = pos < from
 EndsAsAsked pos snap (ByNotYet board) = board < pos
+EndsAsAsked pos snap _ = ⊤
 
 abbrev pub IsAsAsked : Workload → Ended → Type 0
 IsAsAsked script e = (pos : ℕ) → Asks script e.client e.number pos → EndsAsAsked pos e.snap e.ending
