@@ -10,11 +10,13 @@ use hy_base::{Command, Key};
 /// How many commands the commands of a program may count as.
 pub const MOST_COMMANDS: usize = 64;
 
-/// How long the text of a row may be.
+/// How many bytes the text of a row may have.
 pub const TEXT_LIMIT: usize = 200;
 
+// How many rows a table may have.
 const ROW_LIMIT: u64 = 1 << 24;
 
+// How many attributes there are.
 const ATTRIBUTE_LIMIT: u64 = 1 << 31;
 
 // How many keys a table has.
