@@ -1,8 +1,7 @@
 -- What the looks at a script's tables tell.
-use Rattle.std.proofs.Common.{arith, ◌≡◌, ◌⊎◌, ℕ, ◌+◌, ◌-◌, ◌%◌, ◌<◌, ◌≤◌, ◌++◌, Bool, true, false, IsTrue, List, [], ◌∷◌, length, drop, refl, sym, ◌∙◌, ap, subst}
-use Rattle.std.specs.Prelude.{Option, Some, None, Result, Ok, Err, nat_lt, nat_le, ◌&&◌, not, find, option_map, if◌then◌else◌}
-use Rattle.std.proofs.lemmas.Bool.{ltb-false}
-use Rattle.std.proofs.lemmas.List.{length-drop}
+use Rattle.std.proofs.Common.{arith, ◌≡◌, ℕ, ◌+◌, ◌*◌, ◌-◌, ◌%◌, ◌<◌, ◌≤◌, Bool, true, false, IsTrue, zero, suc, List, [], ◌∷◌, length, drop, refl, sym, ◌∙◌, ap, inl, inr, length-drop}
+use Rattle.std.specs.Prelude.{◌⊎◌, ◌^◌, Option, Some, None, Result, Ok, Err, nat_lt, nat_le, ◌&&◌, not, find, option_map, if◌then◌else◌}
+use Rattle.std.proofs.lemmas.Bool.{leb-true, ltb-false, ltb-true}
 use Rattle.std.proofs.Math.Nat.{mod-eq_of_lt, mod-lt}
 use Rattle.std.proofs.Math.Seq.{drop-append-add}
 use Rattle.hy_base.specs.declared.layout.Shape.{Shape}
@@ -26,9 +25,14 @@ use Rattle.hy_rolling.specs.Rolling.{Roll, rolled_upto}
 use Rattle.hy_restart.specs.Restart.{IsRestarted}
 use Rattle.hy_restart.specs.Resuming.{start_of}
 use Rattle.hy_restart.proofs.CutLaws.{whole_size}
-use Rattle.hy_opening.specs.Looks.{OpeningLooksTell, looked}
+use Rattle.hy_opening.specs.Looks.{OpeningLooksTell, looked, soon}
+use Rattle.hy_rules.specs.History.{pairs_of}
+use Rattle.std.specs.Option.{option_or}
 use Rattle.hy_tables.specs.TableLaws.{OpeningFaultTells}
-use Rattle.hy_run.specs.RunningParts.{fault_seen}
+use Rattle.hy_formats.specs.EntryFormat.{entries_past}
+use Rattle.hy_run.specs.RunningParts.{IsBodiesFault, fault_seen}
+use Rattle.hy_run.specs.declared.status.RunOptions.{RunOptions}
+use Rattle.hy_run.specs.declared.status.Status.TheVariants as status
 
 -- ---- the call of a look
 
@@ -46,52 +50,61 @@ next_whole g a c wa wc less (inl near) =
     let none : c - a ≡ 0 = sym (mod-eq_of_lt near) ∙ gap in
     absurd (let never : ⊥ = omega (arith, less, none) in never)
 
+near_or_far : (n g : ℕ) (b : Bool) → nat_lt n g ≡ b → (n < g) ⊎ (g ≤ n)
+near_or_far n g true is = inl (ltb-true n g is)
+near_or_far n g false is = inr (ltb-false n g is)
+
 pub room_waits : (s : Shape) (at from : ℕ) (entries : List EntryKind) → IsGoodShape s → at ≡ whole_groups s (from + length entries) → from + length entries ≤ s.cap → 0 < length (drop (at - from) entries) → at + s.group ≤ s.cap
 room_waits s at from entries good is within some =
-    next_whole s.group at s.cap (ap (λ n. n % s.group) is ∙ whole_is_whole s (from + length entries)) good.whole_groups (omega (arith, within, some, length-drop (at - from) entries)) (near_or_far (s.cap - at) s.group)
-  where
-    near_or_far : (n g : ℕ) → (n < g) ⊎ (g ≤ n)
-    near_or_far n g = by (nat_lt n g) refl
-      where
-        by : (b : Bool) → nat_lt n g ≡ b → (n < g) ⊎ (g ≤ n)
-        by true is = inl (omega (arith, is))
-        by false is = inr (omega (arith, is))
+    next_whole s.group at s.cap (ap (λ n. n % s.group) is ∙ whole_is_whole s (from + length entries)) good.whole_groups (omega (arith, within, some, length-drop (at - from) entries)) (near_or_far (s.cap - at) s.group (nat_lt (s.cap - at) s.group) refl)
 
 -- no key is one of no tables
 no_key : (key : ℕ) → is_table_key 0 key ≡ false
-no_key key = by (nat_le (2 ^ 56) key) refl
+no_key key = by (nat_le (2 ^ 56) key) (nat_lt key ((0 + 1) * 2 ^ 56)) refl refl
   where
-    by : (b : Bool) → nat_le (2 ^ 56) key ≡ b → (b && nat_lt key ((0 + 1) * 2 ^ 56)) ≡ false
-    by false is = refl
-    by true is = omega (arith, is)
+    by : (a b : Bool) → nat_le (2 ^ 56) key ≡ a → nat_lt key ((0 + 1) * 2 ^ 56) ≡ b → (a && b) ≡ false
+    by false b e f = refl
+    by true false e f = refl
+    by true true e f = let low : 2 ^ 56 ≤ key = leb-true (2 ^ 56) key e in let high : key < (0 + 1) * 2 ^ 56 = ltb-true key ((0 + 1) * 2 ^ 56) f in absurd (omega (arith, low, high))
 
-none_found : (pairs all : List Pair) → find (λ p. is_table_key 0 p.key && not (is_right all p)) pairs ≡ None
-none_found [] all = refl
-none_found (p ∷ ps) all = rw (no_key p.key) (none_found ps all)
+never_found : (q : Pair → Bool) → ((p : Pair) → q p ≡ false) → (pairs : List Pair) → find q pairs ≡ None
+never_found q no [] = refl
+never_found q no (p ∷ ps) = rw (no p) (never_found q no ps)
 
 pub no_fault : (pairs : List Pair) → table_fault 0 pairs ≡ None
-no_fault pairs = ap (option_map (λ (p : Pair). p.key)) (none_found pairs pairs)
+no_fault pairs =
+    let no : (p : Pair) → (is_table_key 0 p.key && not (is_right pairs p)) ≡ false = λ p. ap (λ (b : Bool). b && not (is_right pairs p)) (no_key p.key) in
+    ap (option_map (λ (p : Pair). p.key)) (never_found (λ p. is_table_key 0 p.key && not (is_right pairs p)) no pairs)
 
 -- so there is none to be seen without tables
 pub none_seen : (r : Roll) (from : ℕ) (entries : List EntryKind) → fault_seen 0 r from entries ≡ None
 none_seen r from entries = by (drop (rolled_upto r - from) entries)
   where
     by : (w : List EntryKind) → looked r w 0 ≡ None
-    by [] = no_fault _
-    by (x ∷ xs) = rw (no_fault _) (no_fault _)
+    by [] = no_fault (pairs_of r.rolled.tree)
+    by (x ∷ xs) = (λ i. option_or (no_fault (pairs_of r.rolled.tree) i) (no_fault (pairs_of (soon r (x ∷ xs)).rolled.tree) i))
+
+-- where a fault is seen there are some
+some_tables : (tables : ℕ) (r : Roll) (from : ℕ) (entries : List EntryKind) (key : ℕ) → Some key ≡ fault_seen tables r from entries → 1 ≤ tables
+some_tables zero r from entries key e = let wrong : Some key ≡ None = e ∙ none_seen r from entries in absurd (cc wrong)
+some_tables (suc n) r from entries key e = omega arith
 
 -- ---- what it tells of a whole log
 
+-- a start on devices that tell
+pub knowing : {from_point : Bool} {h : Header} {points : List ℕ} {found : List EntryKind} {start : Option Checkpoint} (tells : Bool) → IsTrue tells → IsStart tells from_point h points found start → IsStart true from_point h points found start
+knowing tells knows is = record { unasked = is.unasked; held = λ yes. is.held knows; within = is.within; near = is.near }
+
 near_base : (from : ℕ) (point : Option Checkpoint) (b : Bool) → nat_lt (base_of point) from ≡ b → (if b then Err (restarting.Behind (base_of point) from) else Ok point) ≡ Ok point → from ≤ base_of point
 near_base from point true is e = absurd (cc e)
-near_base from point false is e = omega (arith, is)
+near_base from point false is e = ltb-false (base_of point) from is
 
 -- a point's base is no further than its position
 base_start : (s : Shape) (log : List EntryKind) (point : Option Checkpoint) → StandsIfAny s log point → base_of point ≤ start_of point
 base_start s log None stands = omega arith
 base_start s log (Some c) stands = let b = base_is_before c.shape c.position in omega (arith, b, stands.stands.base_is)
 
-module _ {tells from_point : Bool} {script : Workload} {h : Header} {bytes : List ℕ} {found : List EntryKind} {start : Option Checkpoint} {r : Roll} (looks : OpeningLooksTell) (lawful : IsScript script) (starts : IsStart tells from_point h bytes found start)
+module _ {tells : Bool} {script : Workload} {h : Header} {bytes : List ℕ} {found : List EntryKind} {start : Option Checkpoint} {r : Roll} (looks : OpeningLooksTell) (lawful : IsScript script) (options : RunOptions) (starts : IsStart tells options.from_point h bytes found start)
     (is : IsRestarted script.shape h.from found start r) (onward : r.from ≤ rolled_upto r) where
   -- the log was cut before the roller
   cut_before : (whole : List EntryKind) → IsWholeOf script.shape h.from found start whole → h.from ≤ rolled_upto r
@@ -111,3 +124,11 @@ module _ {tells from_point : Bool} {script : Workload} {h : Header} {bytes : Lis
 
   pub opens_sound : OpeningFaultTells → fault_seen script.tables r h.from found ≡ None → (whole : List EntryKind) → IsWholeOf script.shape h.from found start whole → OpensSound script whole
   opens_sound tells none whole w = (tells script whole).0 (sym (seen_is_fault whole w) ∙ none)
+
+  pub table_refusal : (bodies : List (List ℕ)) (key : ℕ) → IsTrue tells → entries_past h.shape h.from bodies ≡ Ok found → Some key ≡ fault_seen script.tables r h.from found → IsBodiesFault options script h bodies bytes (status.Table key)
+  table_refusal bodies key knows read seen = inr (
+    record { header = h; found = found; start = start },
+    refl,
+    record { read = read; starts = knowing tells knows starts },
+    record { key = key; is = refl; has_tables = some_tables script.tables r h.from found key seen; each = λ whole w. sym (seen_is_fault whole w) ∙ sym seen },
+  )
