@@ -8,7 +8,7 @@ ghost use Rattle.hy_base.specs.Shape.{line_after};
 ghost use Rattle.hy_rules.specs.History.{live_rows};
 ghost use Rattle.hy_rules.specs.Validation.{rows, verdicts};
 ghost use Rattle.hy_rules.specs.Runs.{setting_of, step, next_event, is_finished, results_at};
-ghost use Rattle.hy_core.specs.Course.{Course, IsReached, Advances, Breaks, Follows, FollowsSome, IsRefusedAt, Extends, Completes, opened_course};
+ghost use Rattle.hy_core.specs.Course.{Course, IsReached, Advances, Breaks, Follows, FollowsSome, HasSoundTables, IsRefusedAt, Extends, Completes, opened_course};
 
 use crate::moves::perform;
 use crate::parts::{Parts, board_at, may_happen, open, roller_of};
@@ -84,10 +84,13 @@ impl Core {
         Ok(Core { script, parts })
     }
 
-    /// The script, lent. The state is one that some run of it reaches (`reached`).
+    /// The script, lent. The state is one that some run of it reaches (`reached`), and whichever it was has kept the tables
+    /// sound (`tables`).
+    #[tactic(auto, using(crate::proofs::Tabled::sound_tables))]
     pub fn script(&self) -> &Script
         ensures script { result.now ≡ self.now.script }
         ensures reached { IsReached self.now }
+        ensures tables { HasSoundTables self.now }
     {
         &self.script
     }
@@ -143,6 +146,9 @@ impl Core {
     ///
     /// `NotEnabled` names the first event that may not happen in its turn, and those before it have happened.
     /// `Memory`: out of memory, and some of the first events have happened. The core may be broken, as by [`step`](Core::step).
+    /// Whatever comes of it, the tables of a script that has some are sound then, and were after each whole group, and each
+    /// find gave just the first rows with its attribute (`tables`).
+    #[tactic(auto, using(crate::proofs::Tabled::sound_tables))]
     pub fn run<R: Threads + Sync, G: Gate + Sync>(
         &mut self,
         rt: &R,
@@ -155,6 +161,7 @@ impl Core {
         ensures ok { OnOk result (Follows self.old events.now self.new) }
         ensures refused { (index : ℕ) → IsErrOf result (RunError.NotEnabled index) → IsRefusedAt self.old events.now self.new index }
         ensures memory { IsErrOf result RunError.Memory → FollowsSome self.old events.now self.new }
+        ensures tables { HasSoundTables self.new }
     {
         for at in 0..events.len() {
             match self.step(rt, alloc, events[at], threads, gate) {

@@ -138,6 +138,7 @@ base_first (status.Log place why) points h bodies is = absurd is
 base_first (status.Config field held asked) points h bodies is = absurd is
 base_first (status.Behind base from) points h bodies is = absurd is
 base_first status.SpareInUse points h bodies is = absurd is
+base_first (status.Table key) points h bodies is = absurd is
 base_first (status.Frame place why) points h bodies is = absurd is
 
 pub audit_first : (e : EntriesError) (points : Over) (h : Header) (bodies : List (List ℕ)) → IsOnlyRead points → Fits only_point true (entries_fault e) points (opened h bodies)
@@ -251,6 +252,7 @@ module _ {V : Type 0} (items : V → Text) (tells : Bool) (h : Header) (bodies :
     spare_cause (status.Ahead at held) is = absurd is
     spare_cause (status.Behind base from) is = absurd is
     spare_cause (status.NothingToCut from base) is = absurd is
+    spare_cause (status.Table key) is = absurd is
 
     -- what was planned is tried with these entries
     pub tried : (rest : List EntryKind) → IsRest tells h entries point rest → (IsTrue spare.tells → IsTrue tells) → IfOk text (λ v. items v ≡ compact_text point.base (length rest)) → (IsTrue spare.tells → IfOk text (λ v. is_unborn spare.before.seen ≡ true))

@@ -46,6 +46,7 @@ spare_alone spare status.Memory same = tt
 spare_alone spare (status.NothingToCut from base) same = same
 spare_alone spare status.SpareInUse same = tt
 spare_alone spare (status.Frame place why) same = same
+spare_alone spare (status.Table key) same = same
 
 pub spare_apart : {V : Type 0} (spare : Over) (text : Result V Status) → spare.uncalled → IfErr text (λ s. LeavesSpareBy s spare)
 spare_apart spare (Ok v) same = tt
@@ -147,6 +148,7 @@ module _ {V : Type 0} (items : V → Text) (told : Option Text) (faults faults_n
   look_fits fate (status.Behind base from) same is = is
   look_fits fate (status.NothingToCut from base) same is = absurd is
   look_fits fate status.SpareInUse same is = absurd is
+  look_fits fate (status.Table key) same is = absurd is
   look_fits fate (status.Frame place why) same is = absurd is
   look_fits fate status.Memory same is = tt
 

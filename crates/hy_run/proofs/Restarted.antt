@@ -24,7 +24,7 @@ use Rattle.hy_restart.proofs.Saves.{left_same}
 use Rattle.hy_run.specs.Fates.{DeviceFails, Fits, Growth, opened}
 use Rattle.hy_run.specs.Over.{HasFailed, Over, over}
 use Rattle.hy_run.specs.Running.{restart_fault, restart_refused}
-use Rattle.hy_run.specs.RunningParts.{FitsPart, IsRanFault, IsRead, IsRunPart, IsSavingPart}
+use Rattle.hy_run.specs.RunningParts.{FitsPart, IsBodiesFault, IsOpened, IsRanFault, IsRead, IsRunPart, IsSavingPart}
 use Rattle.hy_run.specs.declared.status.RunOptions.{RunOptions}
 use Rattle.hy_run.specs.declared.status.Status.{Status}
 use Rattle.hy_run.specs.declared.status.Status.TheVariants as status
@@ -35,11 +35,8 @@ use Rattle.hy_run.proofs.ByKind.{fault_by}
 pub found_same : (tells : Bool) (h k : Header) (old new : List (List ℕ)) (entries : List EntryKind) → h ≡ k → new ≡ old → AreFoundIn tells h old entries → AreFoundIn tells k new entries
 found_same tells h k old new entries header bodies is = subst (λ (x : Header). AreFoundIn tells x new entries) header (subst (λ bs. AreFoundIn tells h bs entries) (sym bodies) is)
 
-abbrev Starts : Bool → Bool → Header → Content → List EntryKind → Roll → Type 0
-Starts tells from_point h points entries r = (start : Option Checkpoint) × IsStart tells from_point h points.seen entries start × IsRestarted h.shape h.from entries start r
-
-pub roller_same : (tells from_point : Bool) (h k : Header) (old new : Content) (entries : List EntryKind) (r : Roll) → h ≡ k → new ≡ old → Starts tells from_point h old entries r → Starts tells from_point k new entries r
-roller_same tells from_point h k old new entries r header same is = subst (λ (x : Header). Starts tells from_point x new entries r) header (subst (λ (c : Content). Starts tells from_point h c entries r) (sym same) is)
+pub opened_same : (tells : Bool) (options : RunOptions) (script : Workload) (h k : Header) (old new : Content) (entries : List EntryKind) (r : Roll) → h ≡ k → new ≡ old → IsOpened tells options script h old entries r → IsOpened tells options script k new entries r
+opened_same tells options script h k old new entries r header same is = subst (λ (x : Header). IsOpened tells options script x new entries r) header (subst (λ (c : Content). IsOpened tells options script h c entries r) (sym same) is)
 
 -- ---- a run after some reads of both devices
 
@@ -67,11 +64,11 @@ module _ {D : Type 0} (tells : Bool) (content : D → Content) (moment : D → �
   fails_then which.Points failed = (failed.0, let r = failed.1 in let l = reads.later in omega (arith, l, r))
   fails_then which.Spare never = never
 
-  fault_then : (h : Header) (bodies : List (List ℕ)) (s : Status) → IsRanFault options h bodies log_then point_then s → IsRanFault options h bodies log point s
-  fault_then h bodies s is =
-      fault_by (λ n cause. ⊥) (λ x. IsTrue tells → restart_refused (restart_in h bodies options.from_point (content mid_points).seen) ≡ Some x) ⊥ (DeviceFails options log_then point_then)
-      (λ n cause. ⊥) (λ x. IsTrue tells → restart_refused (restart_in h bodies options.from_point (content old_points).seen) ≡ Some x) ⊥ (DeviceFails options log point)
-      (λ n cause never. never) (λ x kind bad. subst (λ (k : Content). IsTrue tells → restart_refused (restart_in h bodies options.from_point k.seen) ≡ Some x) reads.same bad) (λ never. never) fails_then s is
+  fault_then : (script : Workload) (h : Header) (bodies : List (List ℕ)) (s : Status) → IsRanFault options script h bodies log_then point_then s → IsRanFault options script h bodies log point s
+  fault_then script h bodies s is =
+      fault_by (λ n cause. ⊥) (λ x. IsTrue tells → IsBodiesFault options script h bodies (content mid_points).seen x) ⊥ (DeviceFails options log_then point_then)
+      (λ n cause. ⊥) (λ x. IsTrue tells → IsBodiesFault options script h bodies (content old_points).seen x) ⊥ (DeviceFails options log point)
+      (λ n cause never. never) (λ x kind bad. subst (λ (k : Content). IsTrue tells → IsBodiesFault options script h bodies k.seen x) reads.same bad) (λ never. never) fails_then s is
 
   read_then : IsRead point_then point_leaves_then → IsRead point point_leaves
   read_then is = record { same = is.same ∙ reads.same; quiet = quiet_then moment left_since content old_points mid_points points reads.quiet reads.same is.quiet }
@@ -93,6 +90,7 @@ module _ {D : Type 0} (tells : Bool) (content : D → Content) (moment : D → �
   first_then g (status.Behind base from) is = is
   first_then g (status.NothingToCut from base) is = is
   first_then g status.SpareInUse is = is
+  first_then g (status.Table key) is = is
   first_then g (status.Frame place why) is = is
 
   saving_then : (g : Growth) (start : Option Checkpoint) → IsSavingPart g start point_then point_leaves_then → IsSavingPart g start point point_leaves
@@ -127,12 +125,14 @@ module _ {D : Type 0} (tells : Bool) (content : D → Content) (moment : D → �
     moves = p.moves;
     calm = p.calm;
     runs = p.runs;
+    opens = p.opens;
+    tables = p.tables;
     lawful = p.lawful;
     few = p.few;
     asked = p.asked;
     no_batch = λ never. p.no_batch (λ rose. never (let r = rose in omega (arith, later, r)));
     text_is = IfOk-weaker text _ _ (λ v is. record { finished = is.finished; no_batch = is.no_batch; results = is.results; told = is.told; text_is = is.text_is; saved = is.saved }) p.text_is;
-    cause = IfErr-weaker text _ _ (fault_then h bodies) p.cause;
+    cause = IfErr-weaker text _ _ (fault_then script h bodies) p.cause;
     comes_first = IfErr-weaker text _ _ (first_then p.g) p.comes_first;
     acked_is = p.acked_is;
     now = p.now;
@@ -147,18 +147,18 @@ refused_by : (r : Result (List EntryKind × Option Checkpoint) RestartError) (e 
 refused_by (Ok (entries, point)) e is = absurd (cc is)
 refused_by (Err e) f is = let same : e ≡ f = cc is in ap Err same
 
-refused_as : (r : Result (List EntryKind × Option Checkpoint) RestartError) (e : RestartError) (s : Status) → restart_refused (Err e) ≡ Some s → entries_for r ≡ Err e → restart_refused r ≡ Some s
-refused_as r e s told is = ap restart_refused (refused_by r e is) ∙ told
+restart_as : (r : Result (List EntryKind × Option Checkpoint) RestartError) (e : RestartError) (s : Status) → restart_refused (Err e) ≡ Some s → entries_for r ≡ Err e → restart_refused r ≡ Some s
+restart_as r e s told is = ap restart_refused (refused_by r e is) ∙ told
 
-pub restart_cause : (options : RunOptions) (h : Header) (bodies : List (List ℕ)) (log points : Over) (e : RestartError) → (IsTrue log.tells → RefusesRestart e (entries_for (restart_in h bodies options.from_point points.before.seen)))
-    → (e ≡ restarting.LogDevice → HasFailed log) → (e ≡ restarting.PointsDevice → (options.from_point ≡ true) × HasFailed points) → IsRanFault options h bodies log points (restart_fault e)
-restart_cause options h bodies log points restarting.Memory refuses failed point_failed = tt
-restart_cause options h bodies log points restarting.LogDevice refuses failed point_failed = failed refl
-restart_cause options h bodies log points restarting.PointsDevice refuses failed point_failed = let both = point_failed refl in (or_left options.from_point options.save both.0, both.1)
-restart_cause options h bodies log points (restarting.BadEntry pos bad) refuses failed point_failed = λ knows. refused_as (restart_in h bodies options.from_point points.before.seen) (restarting.BadEntry pos bad) _ refl (refuses knows)
-restart_cause options h bodies log points (restarting.BadPoint bad) refuses failed point_failed = λ knows. refused_as (restart_in h bodies options.from_point points.before.seen) (restarting.BadPoint bad) _ refl (refuses knows)
-restart_cause options h bodies log points (restarting.Ahead at held) refuses failed point_failed = λ knows. refused_as (restart_in h bodies options.from_point points.before.seen) (restarting.Ahead at held) _ refl (refuses knows)
-restart_cause options h bodies log points (restarting.Behind base from) refuses failed point_failed = λ knows. refused_as (restart_in h bodies options.from_point points.before.seen) (restarting.Behind base from) _ refl (refuses knows)
+pub restart_cause : (options : RunOptions) (script : Workload) (h : Header) (bodies : List (List ℕ)) (log points : Over) (e : RestartError) → (IsTrue log.tells → RefusesRestart e (entries_for (restart_in h bodies options.from_point points.before.seen)))
+    → (e ≡ restarting.LogDevice → HasFailed log) → (e ≡ restarting.PointsDevice → (options.from_point ≡ true) × HasFailed points) → IsRanFault options script h bodies log points (restart_fault e)
+restart_cause options script h bodies log points restarting.Memory refuses failed point_failed = tt
+restart_cause options script h bodies log points restarting.LogDevice refuses failed point_failed = failed refl
+restart_cause options script h bodies log points restarting.PointsDevice refuses failed point_failed = let both = point_failed refl in (or_left options.from_point options.save both.0, both.1)
+restart_cause options script h bodies log points (restarting.BadEntry pos bad) refuses failed point_failed = λ knows. inl (restart_as (restart_in h bodies options.from_point points.before.seen) (restarting.BadEntry pos bad) _ refl (refuses knows))
+restart_cause options script h bodies log points (restarting.BadPoint bad) refuses failed point_failed = λ knows. inl (restart_as (restart_in h bodies options.from_point points.before.seen) (restarting.BadPoint bad) _ refl (refuses knows))
+restart_cause options script h bodies log points (restarting.Ahead at held) refuses failed point_failed = λ knows. inl (restart_as (restart_in h bodies options.from_point points.before.seen) (restarting.Ahead at held) _ refl (refuses knows))
+restart_cause options script h bodies log points (restarting.Behind base from) refuses failed point_failed = λ knows. inl (restart_as (restart_in h bodies options.from_point points.before.seen) (restarting.Behind base from) _ refl (refuses knows))
 
 -- a point was asked for
 asked_for : (b : Bool) → (b ≡ false → ⊥) → b ≡ true
