@@ -1,21 +1,22 @@
 -- The lines of a script and of a schedule: which may stand where, and what each of them makes.
-use Rattle.std.specs.Prelude.{ℕ, ◌%◌, Bool, true, ◌&&◌, ◌==◌, List, [], ◌∷◌, ◌++◌, length, nat_lt, nat_le, if◌then◌else◌, Option, Some, None, is_some, Result, is_ok}
+use Rattle.std.specs.Prelude.{ℕ, ◌+◌, ◌%◌, Bool, true, not, ◌&&◌, ◌==◌, List, [], ◌∷◌, ◌++◌, length, nat_lt, nat_le, if◌then◌else◌, Option, Some, None, is_some, Result, is_ok}
 use Rattle.hy_base.specs.declared.layout.Shape.{Shape}
 use Rattle.hy_base.specs.declared.workload.Command.{Command}
-use Rattle.hy_base.specs.declared.workload.Command.TheVariants.{Get, Put, Del, Add, Scan}
+use Rattle.hy_base.specs.declared.workload.Command.TheVariants.{Get, Put, Del, Add, Scan, Row, Unrow, Cell, Find}
 use Rattle.hy_base.specs.declared.workload.Client.{Client}
 use Rattle.hy_base.specs.declared.workload.Mode.{Mode}
 use Rattle.hy_base.specs.declared.workload.Program.{Program}
 use Rattle.hy_base.specs.declared.workload.Event.{Event}
 use Rattle.hy_base.specs.declared.workload.Event.TheVariants.{Begin, Append, End, Refuse, Pad, Publish, Stop}
-use Rattle.hy_base.specs.Script.{Workload, client_count}
+use Rattle.hy_base.specs.Script.{Workload, client_count, command_count, counts_as}
+use Rattle.hy_base.specs.Tables.{attribute_limit, is_table_key, row_limit, text_limit}
 use Rattle.hy_base.specs.Shape.{is_within, shape_fault}
 use Rattle.hy_base.specs.declared.record.Isolation.{Isolation}
 use Rattle.hy_base.specs.declared.record.Isolation.TheVariants.{Serializable, Snapshot}
 use Rattle.hy_base.specs.Entry.{is_told}
 use Rattle.hy_base.specs.Value.{is_value}
 use Rattle.hy_base.specs.Spelling.{Text}
-use Rattle.hy_script.specs.Forms.{Meaning, LineForm, Alone, OneNumber, TwoNumbers, ThreeNumbers, NumberAndText, FixedWord, WordAndNumber, OtherFourth, FixedFourth, read_line}
+use Rattle.hy_script.specs.Forms.{Meaning, LineForm, Alone, OneNumber, TwoNumbers, ThreeNumbers, NumberAndText, ThreeNumbersAndText, FixedWord, WordAndNumber, OtherFourth, FixedFourth, read_line}
 use Rattle.hy_script.specs.declared.why.Why.{Why}
 use Rattle.hy_script.specs.declared.why.Why.TheVariants.{Value, Range, Order, Count, Version}
 
@@ -44,6 +45,13 @@ abbrev pub last_program_count : List Client → ℕ
 last_program_count [] = 0
 last_program_count (c ∷ []) = length c.programs
 last_program_count (c ∷ d ∷ clients) = last_program_count (d ∷ clients)
+
+-- Tables are told before the first client, and once.
+abbrev pub may_tell_tables : Workload → Bool
+may_tell_tables script = (script.tables == 0) && (length script.clients == 0)
+
+abbrev pub with_tables : ℕ → Workload → Workload
+with_tables tables script = record script { tables = tables }
 
 abbrev pub with_client : ℕ → Workload → Workload
 with_client server script = record script { clients = script.clients ++ record { server = server; programs = [] } ∷ [] }
@@ -100,11 +108,15 @@ shape_forms =
 -- so many servers, each of which keeps so many of its last boards
 abbrev pub served : Shape → ℕ → ℕ → Meaning Place
 served shape servers keeps =
-    makes_if ((is_within 1 8 servers && is_within 1 64 keeps, Range) ∷ []) (Listing (record { shape = shape; servers = servers; keeps = keeps; clients = [] }))
+    makes_if ((is_within 1 8 servers && is_within 1 64 keeps, Range) ∷ []) (Listing (record { shape = shape; servers = servers; keeps = keeps; tables = 0; clients = [] }))
 
 -- servers S, with one board each; and servers S K
 abbrev pub servers_forms : Shape → List (LineForm Place)
 servers_forms shape = OneNumber "servers" (λ servers. served shape servers 1) ∷ TwoNumbers "servers" (λ servers keeps. served shape servers keeps) ∷ []
+
+-- tables N
+abbrev pub tables_form : Workload → LineForm Place
+tables_form script = OneNumber "tables" (λ tables. makes_if ((is_within 1 255 tables, Range) ∷ []) (Listing (with_tables tables script)))
 
 -- client S
 abbrev pub client_form : Workload → LineForm Place
@@ -133,9 +145,23 @@ end_form script program = Alone "end" (makes (Listing (with_program program scri
 abbrev pub schedule_form : ℕ → Workload → LineForm Place
 schedule_form number script = Alone "schedule" (makes (Scheduled script number))
 
--- a further command of a program, with tests of its own
+-- a further command of a program, with tests of its own: all of them count as 64 at most
 abbrev pub gains : Workload → Program → Command → List (Bool × Why) → Meaning Place
-gains script program command tests = makes_if (tests ++ (nat_lt (length program.commands) 64, Count) ∷ []) (Programming script (gains_command command program))
+gains script program command tests = makes_if (tests ++ (nat_le (command_count program.commands + counts_as command) 64, Count) ∷ []) (Programming script (gains_command command program))
+
+-- a row of one of so many tables, and its attribute; and a text that a row may have
+abbrev pub is_row : ℕ → ℕ → ℕ → Bool
+is_row tables table row = is_within 1 tables table && nat_lt row row_limit
+
+abbrev pub is_row_with : ℕ → ℕ → ℕ → ℕ → Bool
+is_row_with tables table row attribute = is_row tables table row && nat_lt attribute attribute_limit
+
+abbrev pub is_row_text : Text → Bool
+is_row_text text = is_value text && nat_le (length text) text_limit
+
+-- what may be looked for: an attribute in one of so many tables, and so many rows of it
+abbrev pub is_search : ℕ → ℕ → ℕ → ℕ → Bool
+is_search tables table attribute n = is_within 1 tables table && (nat_lt attribute attribute_limit && is_within 1 1000 n)
 
 -- get K, scan LO HI N
 abbrev pub reading_forms : Workload → Program → List (LineForm Place)
@@ -144,13 +170,35 @@ reading_forms script program =
     ∷ ThreeNumbers "scan" (λ lo hi n. gains script program (Scan lo hi n) ((is_within 1 1000 n, Range) ∷ (nat_le lo hi, Order) ∷ []))
     ∷ []
 
--- put K V, del K, add K N
+-- put K V, del K, add K N, where K is no key of a table
 abbrev pub writing_forms : Workload → Program → List (LineForm Place)
 writing_forms script program =
-    NumberAndText "put" (λ key value. gains script program (Put key value) ((is_value value, Value) ∷ []))
-    ∷ OneNumber "del" (λ key. gains script program (Del key) [])
-    ∷ TwoNumbers "add" (λ key n. gains script program (Add key n) [])
+    NumberAndText "put" (λ key value. gains script program (Put key value) ((is_value value, Value) ∷ (not (is_table_key script.tables key), Range) ∷ []))
+    ∷ OneNumber "del" (λ key. gains script program (Del key) ((not (is_table_key script.tables key), Range) ∷ []))
+    ∷ TwoNumbers "add" (λ key n. gains script program (Add key n) ((not (is_table_key script.tables key), Range) ∷ []))
     ∷ []
+
+-- where there are tables: cell T R, find T A N
+abbrev pub table_reading_forms : Workload → Program → List (LineForm Place)
+table_reading_forms script program =
+    TwoNumbers "cell" (λ table row. gains script program (Cell table row) ((is_row script.tables table row, Range) ∷ []))
+    ∷ ThreeNumbers "find" (λ table attribute n. gains script program (Find table attribute n) ((is_search script.tables table attribute n, Range) ∷ []))
+    ∷ []
+
+-- and row T R A V, unrow T R
+abbrev pub table_writing_forms : Workload → Program → List (LineForm Place)
+table_writing_forms script program =
+    ThreeNumbersAndText "row" (λ table row attribute text.
+    gains script program (Row table row attribute text) ((is_row_text text, Value) ∷ (is_row_with script.tables table row attribute, Range) ∷ []))
+    ∷ TwoNumbers "unrow" (λ table row. gains script program (Unrow table row) ((is_row script.tables table row, Range) ∷ []))
+    ∷ []
+
+-- the commands that may stand where there are tables or aren't, and where a program only reads or may also write
+abbrev pub command_forms : Bool → Bool → Workload → Program → List (LineForm Place)
+command_forms has_tables reads script program =
+    reading_forms script program
+    ++ (if has_tables then table_reading_forms script program else [])
+    ++ (if reads then [] else writing_forms script program ++ (if has_tables then table_writing_forms script program else []))
 
 -- The lines that may stand at a place, this being the line with the number that is given. Where there is a simulation a schedule may follow the clients.
 -- A program that asks for a position only reads.
@@ -159,10 +207,10 @@ forms_at sim AtStart number = shape_forms
 forms_at sim (Shaped shape) number = servers_forms shape
 forms_at sim (Listing script) number =
     client_form script
-    ∷ (if nat_lt 0 (length script.clients) then begin_forms script else [])
+    ∷ (if may_tell_tables script then tables_form script ∷ [] else [])
+    ++ (if nat_lt 0 (length script.clients) then begin_forms script else [])
     ++ (if sim then schedule_form number script ∷ [] else [])
-forms_at sim (Programming script program) number =
-    reading_forms script program ++ (if is_some program.as_of then [] else writing_forms script program) ++ end_form script program ∷ []
+forms_at sim (Programming script program) number = command_forms (nat_lt 0 script.tables) (is_some program.as_of) script program ++ end_form script program ∷ []
 forms_at sim (Scheduled script start) number = []
 
 abbrev pub event_of_client : Workload → Event → ℕ → Meaning Event

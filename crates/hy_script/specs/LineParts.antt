@@ -1,10 +1,10 @@
 -- What the line of a place tells, apart from where it leads.
-use Rattle.std.specs.Prelude.{◌≡◌, ◌<◌, ℕ, Bool, true, ⊤, length, List, is_some, Result, Ok, Err}
+use Rattle.std.specs.Prelude.{◌≡◌, ◌<◌, ◌≤◌, ◌+◌, ℕ, Bool, true, ⊤, length, List, [], is_some, All, Result, Ok, Err}
 use Rattle.hy_base.specs.declared.workload.Program.{Program}
 use Rattle.hy_base.specs.declared.workload.Client.{Client as ScriptClient}
 use Rattle.hy_base.specs.Shape.{IsWithin, IsGoodShape}
 use Rattle.hy_base.specs.Entry.{is_told}
-use Rattle.hy_base.specs.Script.{Workload, IsAsOf, IsCommand, IsProgram, IsReading, client_count}
+use Rattle.hy_base.specs.Script.{Workload, FitsTables, IsAsOf, IsCommand, IsProgram, IsReading, client_count, counts_as}
 use Rattle.hy_base.specs.declared.layout.Shape.{Shape}
 use Rattle.hy_base.specs.declared.record.Isolation.TheVariants.{Serializable}
 use Rattle.hy_base.specs.declared.workload.Mode.{Mode}
@@ -12,12 +12,12 @@ use Rattle.hy_script.specs.declared.reader.Place.{Place as PlaceCode}
 use Rattle.hy_script.specs.declared.reader.Place.TheVariants.{Start as StartCode, Shaped as ShapedCode, Listing as ListingCode, Programming as ProgrammingCode}
 use Rattle.hy_script.specs.declared.reader.Step.{Step}
 use Rattle.hy_script.specs.declared.reader.Step.TheVariants.{To, Reaches}
-use Rattle.hy_script.specs.Grammar.{Place, AtStart, Shaped, Listing, Programming, Scheduled, with_client, with_program, begun, gains_command, last_program_count}
+use Rattle.hy_script.specs.Grammar.{Place, AtStart, Shaped, Listing, Programming, Scheduled, with_client, with_program, with_tables, begun, gains_command, last_program_count}
 use Rattle.hy_script.specs.declared.why.Why.{Why}
 use Rattle.hy_script.specs.declared.script.LineError.{LineError}
 use Rattle.hy_script.specs.declared.script.LineError.TheVariants.{Unfit, Memory}
 use Rattle.hy_script.specs.declared.script.ListingLine.{ListingLine}
-use Rattle.hy_script.specs.declared.script.ListingLine.TheVariants.{Client, Begin, Schedule}
+use Rattle.hy_script.specs.declared.script.ListingLine.TheVariants.{Tables, Client, Begin, Schedule}
 use Rattle.hy_script.specs.declared.script.ProgramLine.{ProgramLine}
 use Rattle.hy_script.specs.declared.script.ProgramLine.TheVariants.{Next, End}
 
@@ -36,6 +36,7 @@ LeadsTo place (Ok a) read = read ≡ Ok (place a)
 LeadsTo place (Err e) read = FailsAs e read
 
 abbrev pub after_listing : Workload → ℕ → ListingLine → Place
+after_listing script number (Tables tables) = Listing (with_tables tables script)
 after_listing script number (Client server) = Listing (with_client server script)
 after_listing script number (Begin mode) = Programming script (begun mode)
 after_listing script number Schedule = Scheduled script number
@@ -62,6 +63,7 @@ IsPlace (ShapedCode shape) = IsGoodShape shape
 IsPlace (ListingCode script) = ⊤
 IsPlace (ProgrammingCode script program) =
     (0 < length script.clients) × (last_program_count script.clients < 10000) × (is_told script.shape.version program.isolation ≡ true) × IsAsOf script.shape program.as_of × IsProgram program
+    × All (FitsTables script.tables) program.commands
 
 abbrev pub IsStep : Step → Type 0
 IsStep (To place) = IsPlace place
@@ -73,11 +75,12 @@ IsMode shape mode = IsAsOf shape mode.as_of × (is_some mode.as_of ≡ true → 
 
 -- what a line between programs tells, in a script of a shape
 abbrev pub IsClientListed : Shape → ℕ → List ScriptClient → ListingLine → Type 0
+IsClientListed shape servers clients (Tables tables) = IsWithin 1 255 tables × (clients ≡ [])
 IsClientListed shape servers clients (Client server) = IsWithin 1 servers server × (client_count clients server < 16)
 IsClientListed shape servers clients (Begin mode) = (0 < length clients) × (last_program_count clients < 10000) × (is_told shape.version mode.isolation ≡ true) × IsMode shape mode
 IsClientListed shape servers clients Schedule = ⊤
 
--- and a line of a program that has so many commands, and that only reads where that is asked
-abbrev pub IsNextLine : Bool → ℕ → ProgramLine → Type 0
-IsNextLine reads count (Next command) = IsCommand command × (reads ≡ true → IsReading command) × (count < 64)
-IsNextLine reads count End = ⊤
+-- and a line of a program whose commands count as so many, in a script with so many tables, and that only reads where that is asked
+abbrev pub IsNextLine : ℕ → Bool → ℕ → ProgramLine → Type 0
+IsNextLine tables reads count (Next command) = IsCommand command × (reads ≡ true → IsReading command) × FitsTables tables command × (count + counts_as command ≤ 64)
+IsNextLine tables reads count End = ⊤

@@ -4,7 +4,7 @@ use Rattle.hy_base.specs.declared.layout.Shape.{Shape}
 use Rattle.hy_base.specs.declared.record.Isolation.{Isolation}
 use Rattle.hy_base.specs.declared.record.Isolation.TheVariants.{Serializable, Snapshot}
 use Rattle.hy_base.specs.declared.workload.Command.{Command}
-use Rattle.hy_base.specs.declared.workload.Command.TheVariants.{Get, Put, Del, Add, Scan}
+use Rattle.hy_base.specs.declared.workload.Command.TheVariants.{Get, Put, Del, Add, Scan, Row, Unrow, Cell, Find}
 use Rattle.hy_base.specs.declared.workload.Client.{Client}
 use Rattle.hy_base.specs.declared.workload.Program.{Program}
 use Rattle.hy_base.specs.declared.workload.Event.{Event}
@@ -18,6 +18,10 @@ command_words (Put key value) = codes "put" ∷ decimal key ∷ value ∷ []
 command_words (Del key) = codes "del" ∷ decimal key ∷ []
 command_words (Add key n) = codes "add" ∷ decimal key ∷ decimal n ∷ []
 command_words (Scan lo hi n) = codes "scan" ∷ decimal lo ∷ decimal hi ∷ decimal n ∷ []
+command_words (Row table row attribute text) = codes "row" ∷ decimal table ∷ decimal row ∷ decimal attribute ∷ text ∷ []
+command_words (Unrow table row) = codes "unrow" ∷ decimal table ∷ decimal row ∷ []
+command_words (Cell table row) = codes "cell" ∷ decimal table ∷ decimal row ∷ []
+command_words (Find table attribute n) = codes "find" ∷ decimal table ∷ decimal attribute ∷ decimal n ∷ []
 
 abbrev pub isolation_fields : Isolation → List Text
 isolation_fields Serializable = []
@@ -56,12 +60,17 @@ keeps_fields keeps = if keeps == 1 then [] else decimal keeps ∷ []
 abbrev pub servers_words : ℕ → ℕ → List Text
 servers_words servers keeps = codes "servers" ∷ decimal servers ∷ keeps_fields keeps
 
+-- a script without tables has no line of them
+abbrev pub tables_lines : ℕ → List (List Text)
+tables_lines tables = if tables == 0 then [] else (codes "tables" ∷ decimal tables ∷ []) ∷ []
+
+-- the lines before the first client
+abbrev pub head_lines : Workload → List (List Text)
+head_lines script = spelled_shape script.shape ∷ servers_words script.servers script.keeps ∷ tables_lines script.tables
+
 -- the words of a script's lines
 abbrev pub script_lines : Workload → List (List Text)
-script_lines script =
-    spelled_shape script.shape
-    ∷ servers_words script.servers script.keeps
-    ∷ flat_map client_lines script.clients
+script_lines script = head_lines script ++ flat_map client_lines script.clients
 
 abbrev pub text_of_lines : List (List Text) → Text
 text_of_lines lines = flat_map line lines

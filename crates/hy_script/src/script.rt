@@ -1,25 +1,31 @@
 //! The lines of a script.
-ghost use Rattle.std.specs.Prelude.{◌≡◌, ◌<◌, ℕ, Bool, true, false, List, Ok, length, IfOk, IfSome};
+ghost use Rattle.std.specs.Prelude.{◌≡◌, ◌<◌, ◌≤◌, ℕ, not, nat_lt, Bool, true, false, List, Ok, length, IfOk, IfSome};
 ghost use Rattle.hy_base.specs.declared.workload.Mode.{Mode};
 ghost use Rattle.hy_base.specs.Entry.{is_told};
-ghost use Rattle.hy_base.specs.Script.{IsCommand, IsReading, client_count};
+ghost use Rattle.hy_base.specs.Script.{FitsTables, IsCommand, IsReading, client_count};
 ghost use Rattle.hy_base.specs.Shape.{IsGoodShape, IsWithin};
 ghost use Rattle.hy_script.specs.Fields.{HasFields, and_then, one_number, two_numbers, three_numbers, four_numbers, no_fields};
 ghost use Rattle.hy_script.specs.LineParts.{IsClientListed, IsMode, IsNextLine};
-ghost use Rattle.hy_script.specs.ScriptFields.{shape_fields, shape_numbers, good_shape, told_by_three, told_by_four, told_with_horizon, servers_fields, servers_line, servers_numbers, position_field, mode_fields, one_more_program, scan_fields, ValueOf, shape_line, number_within, client_fields, listing_line, one_more, put_fields, writing_line, program_line, TellsField};
+ghost use Rattle.hy_script.specs.ScriptFields.{shape_fields, shape_numbers, good_shape, told_by_three, told_by_four, told_with_horizon, servers_fields, servers_line, servers_numbers, position_field, mode_fields, one_more_program, scan_fields, RowTextOf, ValueOf, shape_line, number_within, tables_fields, client_fields, listing_line, one_more, one_more_if, put_fields, del_fields, add_fields, row_fields, unrow_fields, cell_fields, find_fields, writing_line, program_line, TellsField};
 ghost use Rattle.hy_script.specs.Lines.{words_of};
-ghost use Rattle.hy_base.specs.declared.workload.Command.TheVariants.{Get, Del, Add};
+ghost use Rattle.hy_base.specs.declared.workload.Command.TheVariants.{Get};
 ghost use Rattle.hy_base.specs.Limits.{IsServerNumber};
-ghost use Rattle.hy_script.specs.declared.script.ListingLine.TheVariants.{Begin, Schedule};
+ghost use Rattle.hy_base.specs.Tables.{is_table_key};
+ghost use Rattle.hy_script.specs.declared.script.ListingLine.TheVariants.{Tables, Begin, Schedule};
 ghost use Rattle.hy_script.specs.declared.script.ProgramLine.TheVariants.{End};
 ghost use Rattle.hy_script.specs.Grammar.{plain_mode};
 
 use crate::Why;
+use crate::ranges::{
+    MOST_COMMANDS, TEXT_LIMIT, counts_as, is_row, is_row_with, is_search, is_table_key,
+};
 use crate::words::{
     Fields, cut_fields, four_numbers, no_fields, number_and_text, one_number, three_numbers,
-    two_numbers,
+    three_numbers_and_text, two_numbers,
 };
-use hy_base::{Client, Command, Isolation, Mode, Pos, Shape, Value, ValueError, tells_isolation};
+use hy_base::{
+    Client, Command, Isolation, Key, Mode, Pos, Shape, Value, ValueError, tells_isolation,
+};
 use std::alloc::{AllocError, Global};
 
 /// Why a line was not read.
@@ -54,6 +60,7 @@ impl From<AllocError> for LineError {
 /// A line between programs.
 #[derive(Clone, Copy)]
 pub enum ListingLine {
+    Tables(u8),
     Client(u8),
     Begin(Mode),
     Schedule,
@@ -244,8 +251,16 @@ fn count_of(clients: &[Client], server: u8) -> usize
         .count()
 }
 
+fn tables_of(fields: Fields<'_>) -> Result<ListingLine, Why>
+    ensures exact { (words : List (List ℕ)) → HasFields fields.entry words → result ≡ tables_fields words }
+    ensures fits { IfOk result (λ l. (tables : ℕ) × (l ≡ Tables tables) × IsWithin 1 255 tables) }
+{
+    let tables = within(1, 255, fields)?;
+    Ok(ListingLine::Tables(tables))
+}
+
 fn client_of(servers: u8, clients: &[Client], fields: Fields<'_>) -> Result<ListingLine, Why>
-    ensures exact { (words : List (List ℕ)) (shape : Shape) (keeps : ℕ) → HasFields fields.entry words → result ≡ client_fields (record { shape = shape; servers = servers; keeps = keeps; clients = clients.now }) words }
+    ensures exact { (words : List (List ℕ)) (shape : Shape) (keeps tables : ℕ) → HasFields fields.entry words → result ≡ client_fields (record { shape = shape; servers = servers; keeps = keeps; tables = tables; clients = clients.now }) words }
     ensures fits { (shape : Shape) → IfOk result (IsClientListed shape servers clients.now) }
 {
     let server = within(1, servers, fields)?;
@@ -353,6 +368,7 @@ fn schedule_of(fields: Fields<'_>) -> Result<ListingLine, Why>
 fn scan_of(fields: Fields<'_>) -> Result<Command, Why>
     ensures exact { (words : List (List ℕ)) → HasFields fields.entry words → result ≡ scan_fields words }
     ensures lawful { IfOk result (λ command. IsCommand command × IsReading command) }
+    ensures fits { (tables : ℕ) → IfOk result (FitsTables tables) }
 {
     let (lo, hi, n) = three_numbers(fields)?;
     if n < 1 || n > 1000 {
@@ -380,22 +396,36 @@ fn value_of(alloc: Global, text: &[u8]) -> Result<Value, LineError>
     }
 }
 
+// The text of a row.
+fn row_text(alloc: Global, text: &[u8]) -> Result<Value, LineError>
+    ensures { RowTextOf result text.now }
+{
+    if text.len() > TEXT_LIMIT {
+        return Err(LineError::Unfit(Why::Value));
+    }
+    value_of(alloc, text)
+}
+
 /// The line that stands between programs.
 #[tactic(auto, using(crate::proofs::ScriptLines::last_count))]
 pub fn read_listing(
     sim: bool,
     shape: Shape,
     servers: u8,
+    tables: u8,
     clients: &[Client],
     line: &[u8],
 ) -> Result<ListingLine, Why>
     requires { 0 < shape.group }
-    ensures exact { (keeps : ℕ) → result ≡ listing_line sim (record { shape = shape; servers = servers; keeps = keeps; clients = clients.now }) (words_of line.now) }
+    ensures exact { (keeps : ℕ) → result ≡ listing_line sim (record { shape = shape; servers = servers; keeps = keeps; tables = tables; clients = clients.now }) (words_of line.now) }
     ensures fits { IfOk result (IsClientListed shape servers clients.now) }
 {
     let (word, fields) = cut_fields(line);
     if word == b"client".as_slice() {
         return client_of(servers, clients, fields);
+    }
+    if tables == 0 && clients.is_empty() && word == b"tables".as_slice() {
+        return tables_of(fields);
     }
     if word == b"begin".as_slice() {
         return match clients.last() {
@@ -409,47 +439,67 @@ pub fn read_listing(
     Err(Why::Word)
 }
 
-// A further command of a program.
+// A further command of a program whose commands count as so many.
 fn one_more(count: usize, command: Command) -> Result<ProgramLine, Why>
     requires lawful { IsCommand command }
+    requires few { count ≤ 64 }
     ensures exact { result ≡ one_more count command }
-    ensures fits { (reads : Bool) → (reads ≡ true → IsReading command) → IfOk result (IsNextLine reads count) }
+    ensures fits { (tables : ℕ) (reads : Bool) → (reads ≡ true → IsReading command) → FitsTables tables command → IfOk result (IsNextLine tables reads count) }
 {
-    if count < 64 {
+    if count + counts_as(&command) <= MOST_COMMANDS {
         Ok(ProgramLine::Next(command))
     } else {
         Err(Why::Count)
     }
 }
 
+// The same of a command that writes a key, which is no key of a table.
+fn one_write(tables: u8, count: usize, key: Key, command: Command) -> Result<ProgramLine, Why>
+    requires lawful { IsCommand command }
+    requires fits { is_table_key tables key ≡ false → FitsTables tables command }
+    requires few { count ≤ 64 }
+    ensures exact { result ≡ one_more_if (not (is_table_key tables key)) count command }
+    ensures fits { IfOk result (IsNextLine tables false count) }
+{
+    if is_table_key(tables, key) {
+        return Err(Why::Range);
+    }
+    one_more(count, command)
+}
+
 fn get_of(count: usize, fields: Fields<'_>) -> Result<ProgramLine, LineError>
+    requires { count ≤ 64 }
     ensures exact { (words : List (List ℕ)) → HasFields fields.entry words → TellsField result (and_then (one_number words) (λ key. one_more count (Get key))) }
-    ensures fits { (reads : Bool) → IfOk result (IsNextLine reads count) }
+    ensures fits { (tables : ℕ) (reads : Bool) → IfOk result (IsNextLine tables reads count) }
 {
     let line = one_more(count, Command::Get(one_number(fields)?))?;
     Ok(line)
 }
 
-fn del_of(count: usize, fields: Fields<'_>) -> Result<ProgramLine, LineError>
-    ensures exact { (words : List (List ℕ)) → HasFields fields.entry words → TellsField result (and_then (one_number words) (λ key. one_more count (Del key))) }
-    ensures fits { IfOk result (IsNextLine false count) }
+fn del_of(tables: u8, count: usize, fields: Fields<'_>) -> Result<ProgramLine, LineError>
+    requires { count ≤ 64 }
+    ensures exact { (words : List (List ℕ)) → HasFields fields.entry words → TellsField result (del_fields tables count words) }
+    ensures fits { IfOk result (IsNextLine tables false count) }
 {
-    let line = one_more(count, Command::Del(one_number(fields)?))?;
+    let key = one_number(fields)?;
+    let line = one_write(tables, count, key, Command::Del(key))?;
     Ok(line)
 }
 
-fn add_of(count: usize, fields: Fields<'_>) -> Result<ProgramLine, LineError>
-    ensures exact { (words : List (List ℕ)) → HasFields fields.entry words → TellsField result (and_then (two_numbers words) (λ p. one_more count (Add p.0 p.1))) }
-    ensures fits { IfOk result (IsNextLine false count) }
+fn add_of(tables: u8, count: usize, fields: Fields<'_>) -> Result<ProgramLine, LineError>
+    requires { count ≤ 64 }
+    ensures exact { (words : List (List ℕ)) → HasFields fields.entry words → TellsField result (add_fields tables count words) }
+    ensures fits { IfOk result (IsNextLine tables false count) }
 {
     let (key, n) = two_numbers(fields)?;
-    let line = one_more(count, Command::Add(key, n))?;
+    let line = one_write(tables, count, key, Command::Add(key, n))?;
     Ok(line)
 }
 
 fn counted_scan(count: usize, fields: Fields<'_>) -> Result<ProgramLine, LineError>
+    requires { count ≤ 64 }
     ensures exact { (words : List (List ℕ)) → HasFields fields.entry words → TellsField result (and_then (scan_fields words) (one_more count)) }
-    ensures fits { (reads : Bool) → IfOk result (IsNextLine reads count) }
+    ensures fits { (tables : ℕ) (reads : Bool) → IfOk result (IsNextLine tables reads count) }
 {
     let line = one_more(count, scan_of(fields)?)?;
     Ok(line)
@@ -463,47 +513,141 @@ fn end_of(fields: Fields<'_>) -> Result<ProgramLine, LineError>
     Ok(ProgramLine::End)
 }
 
-fn put_of(alloc: Global, count: usize, fields: Fields<'_>) -> Result<ProgramLine, LineError>
-    ensures exact { (words : List (List ℕ)) → HasFields fields.entry words → TellsField result (put_fields count words) }
-    ensures fits { IfOk result (IsNextLine false count) }
+fn put_of(
+    alloc: Global,
+    tables: u8,
+    count: usize,
+    fields: Fields<'_>,
+) -> Result<ProgramLine, LineError>
+    requires { count ≤ 64 }
+    ensures exact { (words : List (List ℕ)) → HasFields fields.entry words → TellsField result (put_fields tables count words) }
+    ensures fits { IfOk result (IsNextLine tables false count) }
 {
     let (key, text) = number_and_text(fields)?;
     let value = value_of(alloc, text)?;
-    let line = one_more(count, Command::Put(key, value))?;
+    let line = one_write(tables, count, key, Command::Put(key, value))?;
+    Ok(line)
+}
+
+fn row_of(
+    alloc: Global,
+    tables: u8,
+    count: usize,
+    fields: Fields<'_>,
+) -> Result<ProgramLine, LineError>
+    requires { count ≤ 64 }
+    ensures exact { (words : List (List ℕ)) → HasFields fields.entry words → TellsField result (row_fields tables count words) }
+    ensures fits { IfOk result (IsNextLine tables false count) }
+{
+    let (table, row, attribute, text) = three_numbers_and_text(fields)?;
+    let text = row_text(alloc, text)?;
+    if !is_row_with(tables, table, row, attribute) {
+        return Err(LineError::Unfit(Why::Range));
+    }
+    let command = Command::Row {
+        table: table as u8,
+        row: row as u32,
+        attribute: attribute as u32,
+        text,
+    };
+    let line = one_more(count, command)?;
+    Ok(line)
+}
+
+fn unrow_of(tables: u8, count: usize, fields: Fields<'_>) -> Result<ProgramLine, LineError>
+    requires { count ≤ 64 }
+    ensures exact { (words : List (List ℕ)) → HasFields fields.entry words → TellsField result (unrow_fields tables count words) }
+    ensures fits { IfOk result (IsNextLine tables false count) }
+{
+    let (table, row) = two_numbers(fields)?;
+    if !is_row(tables, table, row) {
+        return Err(LineError::Unfit(Why::Range));
+    }
+    let command = Command::Unrow {
+        table: table as u8,
+        row: row as u32,
+    };
+    let line = one_more(count, command)?;
+    Ok(line)
+}
+
+fn cell_of(tables: u8, count: usize, fields: Fields<'_>) -> Result<ProgramLine, LineError>
+    requires { count ≤ 64 }
+    ensures exact { (words : List (List ℕ)) → HasFields fields.entry words → TellsField result (cell_fields tables count words) }
+    ensures fits { (reads : Bool) → IfOk result (IsNextLine tables reads count) }
+{
+    let (table, row) = two_numbers(fields)?;
+    if !is_row(tables, table, row) {
+        return Err(LineError::Unfit(Why::Range));
+    }
+    let command = Command::Cell {
+        table: table as u8,
+        row: row as u32,
+    };
+    let line = one_more(count, command)?;
+    Ok(line)
+}
+
+fn find_of(tables: u8, count: usize, fields: Fields<'_>) -> Result<ProgramLine, LineError>
+    requires { count ≤ 64 }
+    ensures exact { (words : List (List ℕ)) → HasFields fields.entry words → TellsField result (find_fields tables count words) }
+    ensures fits { (reads : Bool) → IfOk result (IsNextLine tables reads count) }
+{
+    let (table, attribute, n) = three_numbers(fields)?;
+    if !is_search(tables, table, attribute, n) {
+        return Err(LineError::Unfit(Why::Range));
+    }
+    let command = Command::Find {
+        table: table as u8,
+        attribute: attribute as u32,
+        n: n as u16,
+    };
+    let line = one_more(count, command)?;
     Ok(line)
 }
 
 // A line of a program that may also write.
 fn read_writing_line(
     alloc: Global,
+    tables: u8,
     count: usize,
     word: &[u8],
     fields: Fields<'_>,
 ) -> Result<ProgramLine, LineError>
-    ensures exact { (words : List (List ℕ)) → HasFields fields.entry words → TellsField result (writing_line count word.now words) }
-    ensures fits { IfOk result (IsNextLine false count) }
+    requires { count ≤ 64 }
+    ensures exact { (words : List (List ℕ)) → HasFields fields.entry words → TellsField result (writing_line (nat_lt 0 tables) tables count word.now words) }
+    ensures fits { IfOk result (IsNextLine tables false count) }
 {
     if word == b"put".as_slice() {
-        return put_of(alloc, count, fields);
+        return put_of(alloc, tables, count, fields);
     }
     if word == b"del".as_slice() {
-        return del_of(count, fields);
+        return del_of(tables, count, fields);
     }
     if word == b"add".as_slice() {
-        return add_of(count, fields);
+        return add_of(tables, count, fields);
+    }
+    if tables > 0 && word == b"row".as_slice() {
+        return row_of(alloc, tables, count, fields);
+    }
+    if tables > 0 && word == b"unrow".as_slice() {
+        return unrow_of(tables, count, fields);
     }
     Err(LineError::Unfit(Why::Word))
 }
 
-/// A line of a program that has so many commands. Where it asks for a position, it only reads.
+/// A line of a program whose commands count as so many, in a script with so many tables. Where the program asks for a
+/// position, it only reads.
 pub fn read_program_line(
     alloc: Global,
+    tables: u8,
     reads: bool,
     count: usize,
     line: &[u8],
 ) -> Result<ProgramLine, LineError>
-    ensures exact { TellsField result (program_line reads count (words_of line.now)) }
-    ensures fits { IfOk result (IsNextLine reads count) }
+    requires { count ≤ 64 }
+    ensures exact { TellsField result (program_line tables reads count (words_of line.now)) }
+    ensures fits { IfOk result (IsNextLine tables reads count) }
 {
     let (word, fields) = cut_fields(line);
     if word == b"get".as_slice() {
@@ -515,8 +659,14 @@ pub fn read_program_line(
     if word == b"end".as_slice() {
         return end_of(fields);
     }
+    if tables > 0 && word == b"cell".as_slice() {
+        return cell_of(tables, count, fields);
+    }
+    if tables > 0 && word == b"find".as_slice() {
+        return find_of(tables, count, fields);
+    }
     if reads {
         return Err(LineError::Unfit(Why::Word));
     }
-    read_writing_line(alloc, count, word, fields)
+    read_writing_line(alloc, tables, count, word, fields)
 }

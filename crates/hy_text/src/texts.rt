@@ -122,6 +122,29 @@ fn put_scan(out: &mut Vec<u8>, pairs: &[Pair]) -> Result<(), AllocError>
     put_pairs(out, pairs)
 }
 
+fn put_id(out: &mut Vec<u8>, row: u32) -> Result<(), AllocError>
+    ensures { OnOk result (out.new.items ≡ out.old.items ++ line (codes "id" ∷ decimal row ∷ [])) }
+{
+    put_line(out, b"id", &[Word::Number(row as u64)])
+}
+
+fn put_ids(out: &mut Vec<u8>, ids: &[u32]) -> Result<(), AllocError>
+    ensures { OnOk result (out.new.items ≡ out.old.items ++ flat_map (λ row. line (codes "id" ∷ decimal row ∷ [])) ids.now) }
+{
+    for row in ids {
+        put_id(out, *row)?;
+    }
+    Ok(())
+}
+
+// The rows that were found by their attribute: how many, and the number of each in its line.
+fn put_find(out: &mut Vec<u8>, ids: &[u32]) -> Result<(), AllocError>
+    ensures { OnOk result (out.new.items ≡ out.old.items ++ answer_text (Answer.Ids ids.now)) }
+{
+    put_line(out, b"rows", &[Word::Number(ids.len() as u64)])?;
+    put_ids(out, ids)
+}
+
 fn put_answer(out: &mut Vec<u8>, answer: &Answer) -> Result<(), AllocError>
     ensures { OnOk result (out.new.items ≡ out.old.items ++ answer_text answer.now) }
 {
@@ -133,6 +156,7 @@ fn put_answer(out: &mut Vec<u8>, answer: &Answer) -> Result<(), AllocError>
         Answer::NotNumber => put_line(out, b"notnum", &[]),
         Answer::TooBig => put_line(out, b"toobig", &[]),
         Answer::Pairs(pairs) => put_scan(out, pairs.as_slice()),
+        Answer::Ids(ids) => put_find(out, ids.as_slice()),
     }
 }
 

@@ -1,0 +1,79 @@
+//! What the commands of tables may name, and how many commands a command counts as.
+ghost use Rattle.std.specs.Prelude.{◌≡◌, ◌≤◌, ◌<◌, true};
+ghost use Rattle.hy_base.specs.Script.{command_count, counts_as};
+ghost use Rattle.hy_base.specs.Shape.{IsWithin};
+ghost use Rattle.hy_base.specs.Tables.{attribute_limit, is_table_key, row_limit};
+ghost use Rattle.hy_script.specs.Grammar.{is_row, is_row_with, is_search};
+
+use hy_base::{Command, Key};
+
+/// How many commands the commands of a program may count as.
+pub const MOST_COMMANDS: usize = 64;
+
+/// How many bytes the text of a row may have.
+pub const TEXT_LIMIT: usize = 200;
+
+// How many rows a table may have.
+const ROW_LIMIT: u64 = 1 << 24;
+
+// How many attributes there are.
+const ATTRIBUTE_LIMIT: u64 = 1 << 31;
+
+// How many keys a table has.
+const TABLE_KEYS: Key = 1 << 56;
+
+/// Whether a key belongs to one of so many tables.
+pub fn is_table_key(tables: u8, key: Key) -> bool
+    ensures { result ≡ is_table_key tables key }
+{
+    let table = key / TABLE_KEYS;
+    1 <= table && table <= tables as u64
+}
+
+/// Whether a table is one of so many, and may have this row.
+pub fn is_row(tables: u8, table: u64, row: u64) -> bool
+    ensures exact { result ≡ is_row tables table row }
+    ensures within { result ≡ true → IsWithin 1 tables table × (row < row_limit) }
+{
+    1 <= table && table <= tables as u64 && row < ROW_LIMIT
+}
+
+/// The same of a row with an attribute.
+pub fn is_row_with(tables: u8, table: u64, row: u64, attribute: u64) -> bool
+    ensures exact { result ≡ is_row_with tables table row attribute }
+    ensures within { result ≡ true → IsWithin 1 tables table × (row < row_limit) × (attribute < attribute_limit) }
+{
+    is_row(tables, table, row) && attribute < ATTRIBUTE_LIMIT
+}
+
+/// Whether a table is one of so many, and so many rows of an attribute may be looked for there.
+pub fn is_search(tables: u8, table: u64, attribute: u64, n: u64) -> bool
+    ensures exact { result ≡ is_search tables table attribute n }
+    ensures within { result ≡ true → IsWithin 1 tables table × (attribute < attribute_limit) × IsWithin 1 1000 n }
+{
+    1 <= table && table <= tables as u64 && attribute < ATTRIBUTE_LIMIT && 1 <= n && n <= 1000
+}
+
+/// How many commands a command counts as.
+pub fn counts_as(command: &Command) -> usize
+    ensures exact { result ≡ counts_as command.now }
+    ensures few { result ≤ 3 }
+{
+    match command {
+        Command::Row { .. } => 3,
+        Command::Unrow { .. } => 2,
+        _ => 1,
+    }
+}
+
+/// How many commands these commands count as.
+pub fn command_count(commands: &[Command]) -> usize
+    requires { command_count commands.now ≤ 64 }
+    ensures { result ≡ command_count commands.now }
+{
+    let mut count = 0;
+    for command in commands {
+        count += counts_as(command);
+    }
+    count
+}
