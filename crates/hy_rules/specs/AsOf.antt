@@ -3,7 +3,7 @@ use Rattle.std.specs.Prelude.{◌≡◌, ℕ, ◌<◌, List, Some, ⊤}
 use Rattle.std.specs.List.{AllByRecursion}
 use Rattle.hy_base.specs.declared.workload.Program.{Program}
 use Rattle.hy_base.specs.Script.{Workload}
-use Rattle.hy_rules.specs.Runs.{program_of, Ended, Ending, ByReading, ByEntryAt, ByFull, ByStop, ByPast, ByNotYet}
+use Rattle.hy_rules.specs.Runs.{program_of, Ended, Ending, ByReading, ByPast, ByNotYet}
 
 -- the client's program of this number asks for this position
 pub record Asks (script : Workload) (client number pos : ℕ) : Type 0 where

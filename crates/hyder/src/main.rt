@@ -25,6 +25,7 @@ use hy_disk::Disk;
 use hy_file::FileDisk;
 use hy_io::{Sink, Source, StdSink, StdSource};
 use hy_pipe::{Gate, OpenGate};
+use hy_readahead::ReadAhead;
 use hy_run::{Status, hyder_call};
 use std::alloc::{AllocError, Global};
 use std::fs::OpenOptions;
@@ -98,9 +99,9 @@ fn main(rt: HostRuntime) -> ExitCode {
             &words,
             &mut StdSource::new(rt.stdin()),
             &mut StdSink::new(rt.stdout()),
-            FileDisk::new(&rt, "hyder.log"),
-            FileDisk::new(&rt, "hyder.points"),
-            FileDisk::new(&rt, "hyder.spare"),
+            ReadAhead::new(rt.alloc(), FileDisk::new(&rt, "hyder.log")),
+            ReadAhead::new(rt.alloc(), FileDisk::new(&rt, "hyder.points")),
+            ReadAhead::new(rt.alloc(), FileDisk::new(&rt, "hyder.spare")),
             &OpenGate,
         ),
         Err(_) => exit_code(Status::Memory),
