@@ -3,7 +3,7 @@
 //     peer_rocksdb FOLDER rows                  puts a row of each key
 //     peer_rocksdb FOLDER commits CLIENTS EACH  programs of a get and a put
 //     peer_rocksdb FOLDER reads CLIENTS EACH    programs of 64 gets of one snapshot
-//     peer_rocksdb FOLDER leave COUNT           so many commits, not synced, of which nothing is flushed from the log, and no end
+//     peer_rocksdb FOLDER leave COUNT           so many commits, not synced, and no end: 300,000 stay in the log alone
 //     peer_rocksdb FOLDER open                  opens what is there, and reads a row
 
 #include "peer.h"
@@ -36,8 +36,6 @@ int main(int count, char** words) {
     int first = count > 3 ? atoi(words[3]) : 0, each = count > 4 ? atoi(words[4]) : 0;
     Options options;
     options.create_if_missing = true;
-    if (command == "leave")
-        options.write_buffer_size = size_t(1) << 30;
     OptimisticTransactionDB* db;
     Status opened = OptimisticTransactionDB::Open(options, folder, &db);
     need(opened.ok(), opened.ToString());

@@ -3,7 +3,7 @@
 //     peer_sqlite FOLDER rows                  puts a row of each key
 //     peer_sqlite FOLDER commits CLIENTS EACH  programs of a get and a put
 //     peer_sqlite FOLDER reads CLIENTS EACH    programs of 64 gets of one snapshot
-//     peer_sqlite FOLDER leave COUNT           so many commits, not synced, of which nothing is copied from the log, and no end
+//     peer_sqlite FOLDER leave COUNT           so many commits, not synced, and no end: all stay in the log alone
 //     peer_sqlite FOLDER open                  opens what is there, and reads a row
 
 #include "peer.h"
