@@ -1,6 +1,7 @@
 -- The script of a load keeps the ranges of a script.
 use Rattle.std.proofs.Common.{◌≡◌, ℕ, zero, suc, ◌+◌, ◌-◌, ◌*◌, ◌%◌, ◌<◌, ◌≤◌, ◌^◌, Bool, true, false, List, [], ◌∷◌, length, arith, refl}
-use Rattle.std.specs.Prelude.{if◌then◌else◌, All, ◌==◌, count_by, map, IsTrue}
+use Rattle.std.specs.Prelude.{if◌then◌else◌, All, ◌==◌, ◌&&◌, count_by, map, nat_le, nat_lt, IsTrue}
+use Rattle.std.proofs.lemmas.Bool.{leb-true, ltb-true}
 use Rattle.std.specs.List.{AllByRecursion, list_all, range_with_len}
 use Rattle.std.proofs.lemmas.List.Elements.{All-map, All-cons, All-nil}
 use Rattle.std.proofs.lemmas.List.FromFn.{length-map-range_with_len}
@@ -11,7 +12,8 @@ use Rattle.hy_base.specs.declared.workload.Client.{Client}
 use Rattle.hy_base.specs.Entry.{is_told}
 use Rattle.hy_base.specs.declared.layout.Shape.{Shape}
 use Rattle.hy_base.specs.declared.workload.Mode.{Mode}
-use Rattle.hy_base.specs.Script.{AreTold, AskForGroups, IsAsOf, IsScript, IsClient, IsProgram, IsCommand, home_of, mode_of}
+use Rattle.hy_base.specs.Script.{AreTold, AskForGroups, IsAsOf, IsScript, IsClient, IsProgram, IsCommand, FitsTables, ClientFitsTables, command_count, home_of, mode_of}
+use Rattle.hy_base.specs.Tables.{is_table_key}
 use Rattle.hy_gen.specs.declared.drawing.Draw.{Draw}
 use Rattle.hy_gen.specs.Draws.{draw_of}
 use Rattle.hy_gen.specs.Load.{value_numbered, commands_of, program_numbered, programs_of, program_count, client_of, shape_for, script_of}
@@ -19,18 +21,37 @@ use Rattle.hy_gen.proofs.Values.{letter_and_number}
 
 -- a list of commands, each of them one
 pub record AreCommands (cs : List Command) : Type 0 where
-  pub count : length cs ≤ 64
+  pub count : command_count cs ≤ 64
   pub commands : All IsCommand cs
+  pub fits : All (FitsTables 0) cs
 
-two : (a b : Command) → IsCommand a → IsCommand b → AreCommands (a ∷ b ∷ [])
-two a b first second = record { count = omega arith; commands = All-cons IsCommand a (b ∷ []) first (All-cons IsCommand b [] second (All-nil IsCommand)) }
+-- no key belongs to a table where there are none
+no_table_key : (key : ℕ) → is_table_key 0 key ≡ false
+no_table_key key = go (nat_le (2 ^ 56) key) (nat_lt key ((0 + 1) * 2 ^ 56)) refl refl
+  where
+    go : (a b : Bool) → nat_le (2 ^ 56) key ≡ a → nat_lt key ((0 + 1) * 2 ^ 56) ≡ b → (a && b) ≡ false
+    go false b e f = refl
+    go true false e f = refl
+    go true true e f = let low : 2 ^ 56 ≤ key = leb-true (2 ^ 56) key e in let high : key < (0 + 1) * 2 ^ 56 = ltb-true key ((0 + 1) * 2 ^ 56) f in absurd (omega (arith, low, high))
+
+two : (a b : Command) → command_count (a ∷ b ∷ []) ≡ 2 → IsCommand a → IsCommand b → FitsTables 0 a → FitsTables 0 b → AreCommands (a ∷ b ∷ [])
+two a b count first second one other = record {
+  count = omega (arith, count);
+  commands = All-cons IsCommand a (b ∷ []) first (All-cons IsCommand b [] second (All-nil IsCommand));
+  fits = All-cons (FitsTables 0) a (b ∷ []) one (All-cons (FitsTables 0) b [] other (All-nil (FitsTables 0)));
+}
 
 by_kind : (number key other : ℕ) (zeroth first second : Bool) → number < 2 ^ 64
     → AreCommands (if zeroth then Add key 1 ∷ Add other 1 ∷ [] else if first then Get key ∷ Put (500 + other) (value_numbered number) ∷ [] else if second then Scan key (key + 9) 5 ∷ Put (500 + other) (value_numbered number) ∷ [] else Get (500 + other) ∷ [])
-by_kind number key other true first second small = two (Add key 1) (Add other 1) tt tt
-by_kind number key other false true second small = two (Get key) (Put (500 + other) (value_numbered number)) tt (letter_and_number number small)
-by_kind number key other false false true small = two (Scan key (key + 9) 5) (Put (500 + other) (value_numbered number)) (omega arith, record { at_least = omega arith; at_most = omega arith }) (letter_and_number number small)
-by_kind number key other false false false small = record { count = omega arith; commands = All-cons IsCommand (Get (500 + other)) [] tt (All-nil IsCommand) }
+by_kind number key other true first second small = two (Add key 1) (Add other 1) refl tt tt (no_table_key key) (no_table_key other)
+by_kind number key other false true second small = two (Get key) (Put (500 + other) (value_numbered number)) refl tt (letter_and_number number small) tt (no_table_key (500 + other))
+by_kind number key other false false true small =
+    two (Scan key (key + 9) 5) (Put (500 + other) (value_numbered number)) refl (omega arith, record { at_least = omega arith; at_most = omega arith }) (letter_and_number number small) tt (no_table_key (500 + other))
+by_kind number key other false false false small = record {
+  count = let one : command_count (Get (500 + other) ∷ []) ≡ 1 = refl in omega (arith, one);
+  commands = All-cons IsCommand (Get (500 + other)) [] tt (All-nil IsCommand);
+  fits = All-cons (FitsTables 0) (Get (500 + other)) [] tt (All-nil (FitsTables 0));
+}
 
 pub commands_good : (number : ℕ) (d : Draw) → number < 2 ^ 64 → AreCommands (commands_of number d)
 commands_good number d small = by_kind number (d.first % 500) (d.second % 500) (d.kind % 4 == 0) (d.kind % 4 == 1) (d.kind % 4 == 2) small
@@ -50,6 +71,12 @@ client_good seed size number few least most = record {
   programs = All-map IsProgram (λ turn. program_numbered seed (8 * turn + (number - 1))) (range_with_len 0 (program_count size number))
       (All-range (λ turn. IsProgram (program_numbered seed (8 * turn + (number - 1)))) 0 (program_count size number) (λ turn from upto. program_good seed (8 * turn + (number - 1)) (omega (arith, upto, few, most, least))));
 }
+
+client_fits : (seed size number : ℕ) → size ≤ 80000 → 1 ≤ number → number < 9 → ClientFitsTables 0 (client_of seed size number)
+client_fits seed size number few least most =
+    All-map (λ p. All (FitsTables 0) p.commands) (λ turn. program_numbered seed (8 * turn + (number - 1))) (range_with_len 0 (program_count size number))
+    (All-range (λ turn. All (FitsTables 0) (program_numbered seed (8 * turn + (number - 1))).commands) 0 (program_count size number)
+    (λ turn from upto. (commands_good (8 * turn + (number - 1)) (draw_of seed (8 * turn + (number - 1))) (omega (arith, upto, few, most, least))).fits))
 
 -- Serializable programs can be told in each version
 programs_told : (seed number : ℕ) (turns : List ℕ) → IsTrue (list_all (λ m. is_told 1 m.isolation) (map mode_of (map (λ turn. program_numbered seed (8 * turn + (number - 1))) turns)))
@@ -82,6 +109,8 @@ script_good seed size least few = record {
   servers = record { at_least = omega arith; at_most = omega arith };
   keeps = record { at_least = omega arith; at_most = omega arith };
   clients = All-map (IsClient 4) (client_of seed size) (range_with_len 1 8) (All-range (λ number. IsClient 4 (client_of seed size number)) 1 8 (λ number from upto. client_good seed size number few from (omega (arith, upto))));
+  tables = omega arith;
+  fits_tables = All-map (ClientFitsTables 0) (client_of seed size) (range_with_len 1 8) (All-range (λ number. ClientFitsTables 0 (client_of seed size number)) 1 8 (λ number from upto. client_fits seed size number few from (omega (arith, upto))));
   client_count = λ server.
       let some : count_by (λ (c : Client). c.server == server) (script_of seed size).clients ≤ length (script_of seed size).clients = count_by-le-length (λ (c : Client). c.server == server) (script_of seed size).clients in
       let all : length (script_of seed size).clients ≡ 8 = length-map-range_with_len (client_of seed size) 1 8 in

@@ -45,7 +45,7 @@ abbrev pub shape_for : ℕ → Shape
 shape_for size = record { group = 4; window = 4; cap = 8 * size; version = 1; horizon = None }
 
 abbrev pub script_of : ℕ → ℕ → Workload
-script_of seed size = record { shape = shape_for size; servers = 4; keeps = 1; clients = map (client_of seed size) (range_with_len 1 8) }
+script_of seed size = record { shape = shape_for size; servers = 4; keeps = 1; tables = 0; clients = map (client_of seed size) (range_with_len 1 8) }
 
 -- the schedule, for the programs of a seed
 abbrev pub schedule_of : ℕ → ℕ → List Event

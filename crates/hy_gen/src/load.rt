@@ -5,7 +5,7 @@ ghost use Rattle.hy_base.specs.Limits.{IsLoadSize};
 ghost use Rattle.hy_gen.specs.Load.{script_of, client_of, schedule_of};
 
 use crate::drawing::readers;
-use crate::programs::{CLIENTS, KEEPS, SERVERS, client};
+use crate::programs::{CLIENTS, KEEPS, SERVERS, TABLES, client};
 use crate::rounds::schedule;
 use hy_base::{Clients, Event, Items, Script, Shape};
 use std::alloc::{AllocError, Global};
@@ -40,7 +40,7 @@ pub fn generate(alloc: Global, seed: u64, size: u32) -> Result<Load, AllocError>
         version: 1,
         horizon: None,
     };
-    let script = Script::new(shape, SERVERS, KEEPS, 0, clients(alloc, seed, size)?);
+    let script = Script::new(shape, SERVERS, KEEPS, TABLES, clients(alloc, seed, size)?);
     let readers = readers(alloc, seed, size)?;
     Ok(Load {
         script,

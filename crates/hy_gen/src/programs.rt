@@ -18,6 +18,9 @@ pub const SERVERS: u8 = 4;
 /// How many of its last boards each server keeps.
 pub const KEEPS: u8 = 1;
 
+/// How many tables there are.
+pub const TABLES: u8 = 0;
+
 /// The server of a client.
 pub fn home(client: u8) -> u8
     requires { IsWithin 1 8 client }

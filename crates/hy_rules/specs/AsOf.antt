@@ -3,7 +3,7 @@ use Rattle.std.specs.Prelude.{◌≡◌, ℕ, ◌<◌, List, Some, ⊤}
 use Rattle.std.specs.List.{AllByRecursion}
 use Rattle.hy_base.specs.declared.workload.Program.{Program}
 use Rattle.hy_base.specs.Script.{Workload}
-use Rattle.hy_rules.specs.Runs.{program_of, Ended, Ending, ByReading, ByEntryAt, ByFull, ByStop, ByPast, ByNotYet}
+use Rattle.hy_rules.specs.Runs.{program_of, Ended, Ending, ByReading, ByPast, ByNotYet}
 
 -- the client's program of this number asks for this position
 pub record Asks (script : Workload) (client number pos : ℕ) : Type 0 where
@@ -14,11 +14,9 @@ pub record Asks (script : Workload) (client number pos : ℕ) : Type 0 where
 -- one that read did so at that position; one that was not begun asked for one below the least that its server kept, or above its board
 abbrev pub EndsAsAsked : ℕ → ℕ → Ending → Type 0
 EndsAsAsked pos snap ByReading = snap ≡ pos
-EndsAsAsked pos snap (ByEntryAt at) = ⊤
-EndsAsAsked pos snap ByFull = ⊤
-EndsAsAsked pos snap ByStop = ⊤
 EndsAsAsked pos snap (ByPast from) = pos < from
 EndsAsAsked pos snap (ByNotYet board) = board < pos
+EndsAsAsked pos snap _ = ⊤
 
 abbrev pub IsAsAsked : Workload → Ended → Type 0
 IsAsAsked script e = (pos : ℕ) → Asks script e.client e.number pos → EndsAsAsked pos e.snap e.ending

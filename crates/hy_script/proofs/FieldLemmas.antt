@@ -1,5 +1,5 @@
 -- What the forms with one first word make of fields.
-use Rattle.std.proofs.Common.{arith, ◌≡◌, sym, ℕ, ◌<◌, ◌≤◌, get_or, Bool, true, false, ◌||◌, List, [], ◌∷◌, length, refl, ap, ◌∙◌, if◌then◌else◌}
+use Rattle.std.proofs.Common.{arith, ◌≡◌, sym, ℕ, ◌<◌, ◌≤◌, get_or, Bool, true, false, ◌||◌, ◌&&◌, List, [], ◌∷◌, length, refl, ap, ◌∙◌, if◌then◌else◌}
 use Rattle.std.specs.Prelude.{Option, Some, None, option_and_then, Result, Ok, Err, IsErrAnd, ok_or}
 use Rattle.std.specs.List.{AllByRecursion, list_any}
 use Rattle.std.specs.Option.{option_map_or}
@@ -8,8 +8,8 @@ use Prim.Native.String.{String}
 use Rattle.hy_base.specs.Script.{Workload}
 use Rattle.hy_script.specs.Grammar.{event_forms, makes_if, publish, stop}
 use Rattle.hy_base.specs.Spelling.{Text, number_of}
-use Rattle.hy_script.specs.Forms.{Meaning, LineForm, Alone, OneNumber, TwoNumbers, ThreeNumbers, NumberAndText, judged_words, read_line, read_fields, meaning_of, has_form, form_with, is_blank}
-use Rattle.hy_script.specs.Fields.{HasFields, HasWords, and_then, in_range, one_number, two_numbers, three_numbers, number_and_text, no_fields}
+use Rattle.hy_script.specs.Forms.{Meaning, LineForm, Alone, OneNumber, TwoNumbers, ThreeNumbers, NumberAndText, ThreeNumbersAndText, judged_words, read_line, read_fields, meaning_of, has_form, form_with, is_blank}
+use Rattle.hy_script.specs.Fields.{HasFields, HasWords, and_then, in_range, one_number, two_numbers, three_numbers, number_and_text, three_numbers_and_text, no_fields}
 use Rattle.hy_base.specs.Shape.{is_within}
 use Rattle.hy_base.specs.declared.workload.Event.{Event}
 use Rattle.hy_script.specs.declared.words.Fields.{Fields}
@@ -19,6 +19,11 @@ use Rattle.hy_script.specs.declared.why.Why.TheVariants.{Form, Number, Range}
 pub same_either : {A : Type 0} (t : Bool) (x : A) → (if t then x else x) ≡ x
 same_either true x = refl
 same_either false x = refl
+
+-- a line of a word that may stand elsewhere is read on
+pub passes : {A : Type 0} (t : Bool) (x y : A) → (if t && false then x else y) ≡ y
+passes true x y = refl
+passes false x y = refl
 
 found_one : {T : Type 0} (found : Option ℕ) (meaning : ℕ → Meaning T)
     → option_map_or (λ m. judged_words m) (option_and_then (λ l. Some (meaning l)) found) (Err Number) ≡ and_then (ok_or found Number) (λ n. judged_words (meaning n))
@@ -165,6 +170,26 @@ read_text name meaning [] = refl
 read_text name meaning (a ∷ []) = other_count (NumberAndText name meaning) (a ∷ []) refl
 read_text name meaning (a ∷ b ∷ []) = text_fields (list_any is_blank (a ∷ b ∷ [])) meaning (number_of a) b
 read_text name meaning (a ∷ b ∷ c ∷ rest) = other_count (NumberAndText name meaning) (a ∷ b ∷ c ∷ rest) (ne_eqb 2 (length (a ∷ b ∷ c ∷ rest)) (omega arith))
+
+numbers_text_fields : {T : Type 0} (t : Bool) (meaning : ℕ → ℕ → ℕ → Text → Meaning T) (x y z : Option ℕ) (text : Text)
+    → (if t then Err Form else option_map_or (λ m. judged_words m) (option_and_then (λ k. option_and_then (λ l. option_and_then (λ m. Some (meaning k l m text)) z) y) x) (Err Number))
+    ≡ and_then {A = ℕ × ℕ × ℕ × Text} (if t then Err Form
+    else and_then (ok_or x Number) (λ l. and_then {B = ℕ × ℕ × ℕ × Text} (ok_or y Number) (λ m. and_then {B = ℕ × ℕ × ℕ × Text} (ok_or z Number) (λ n. Ok (l, m, n, text)))))
+    (λ p. judged_words (meaning p.0 p.1 p.2 p.3))
+numbers_text_fields true meaning x y z text = refl
+numbers_text_fields false meaning None y z text = refl
+numbers_text_fields false meaning (Some l) None z text = refl
+numbers_text_fields false meaning (Some l) (Some m) None text = refl
+numbers_text_fields false meaning (Some l) (Some m) (Some n) text = refl
+
+pub read_numbers_text : {T : Type 0} (name : String) (meaning : ℕ → ℕ → ℕ → Text → Meaning T) (fields : List Text)
+    → read_fields (ThreeNumbersAndText name meaning ∷ []) fields ≡ and_then (three_numbers_and_text fields) (λ p. judged_words (meaning p.0 p.1 p.2 p.3))
+read_numbers_text name meaning [] = refl
+read_numbers_text name meaning (a ∷ []) = other_count (ThreeNumbersAndText name meaning) (a ∷ []) refl
+read_numbers_text name meaning (a ∷ b ∷ []) = other_count (ThreeNumbersAndText name meaning) (a ∷ b ∷ []) refl
+read_numbers_text name meaning (a ∷ b ∷ c ∷ []) = other_count (ThreeNumbersAndText name meaning) (a ∷ b ∷ c ∷ []) refl
+read_numbers_text name meaning (a ∷ b ∷ c ∷ text ∷ []) = numbers_text_fields (list_any is_blank (a ∷ b ∷ c ∷ text ∷ [])) meaning (number_of a) (number_of b) (number_of c) text
+read_numbers_text name meaning (a ∷ b ∷ c ∷ d ∷ e ∷ rest) = other_count (ThreeNumbersAndText name meaning) (a ∷ b ∷ c ∷ d ∷ e ∷ rest) (ne_eqb 4 (length (a ∷ b ∷ c ∷ d ∷ e ∷ rest)) (omega arith))
 
 pub read_alone : {T : Type 0} (name : String) (meaning : Meaning T) (fields : List Text)
     → read_fields (Alone name meaning ∷ []) fields ≡ and_then (no_fields fields) (λ u. judged_words meaning)

@@ -1,37 +1,39 @@
 -- From what a line was read as, to its words.
-use Rattle.std.proofs.Common.{arith, zero, suc, refl, eqb-true, ltb-true, ◌≡◌, ◌==◌, ℕ, ◌<◌, ◌^◌, ◌%◌, Bool, true, false, ◌&&◌, List, [], ◌∷◌, length, sym, ap, subst, ◌∙◌, if◌then◌else◌, nat_lt, nat_le}
+use Rattle.std.proofs.Common.{arith, zero, suc, refl, eqb-true, ltb-true, ◌≡◌, ◌==◌, ℕ, ◌+◌, ◌<◌, ◌≤◌, ◌^◌, ◌%◌, Bool, true, false, not, ◌&&◌, List, [], ◌∷◌, length, sym, ap, subst, ◌∙◌, if◌then◌else◌, nat_lt, nat_le}
 use Rattle.std.specs.Fmt.{digits}
 use Rattle.std.specs.Prelude.{Some, None, Ok, Err, is_ok, ok_or, bytes_eq, codes, decimal}
-use Rattle.std.proofs.lemmas.Bool.{and_parts, eq-eqb, leb-true, ne_eqb}
+use Rattle.std.proofs.lemmas.Bool.{and_parts, eq-eqb, leb-true, ne_eqb, not-true}
 use Rattle.std.proofs.lemmas.Slice.Eq.{bytes_eq-Decides}
 use Rattle.hy_base.specs.declared.layout.Shape.{Shape}
 use Rattle.hy_base.specs.declared.workload.Mode.{Mode}
 use Rattle.hy_base.specs.declared.record.Isolation.TheVariants.{Serializable, Snapshot}
+use Rattle.hy_base.specs.declared.workload.Client.{Client as ScriptClient}
 use Rattle.hy_base.specs.declared.workload.Command.{Command}
-use Rattle.hy_base.specs.declared.workload.Command.TheVariants.{Get, Put, Del, Add, Scan}
+use Rattle.hy_base.specs.declared.workload.Command.TheVariants.{Get, Put, Del, Add, Scan, Row, Unrow, Cell, Find}
 use Rattle.hy_base.specs.Entry.{is_told}
-use Rattle.hy_base.specs.Script.{Workload, IsCommand, IsReading, client_count}
+use Rattle.hy_base.specs.Script.{Workload, FitsTables, IsCommand, IsReading, client_count, counts_as}
+use Rattle.hy_base.specs.Tables.{attribute_limit, is_table_key, row_limit, text_limit}
 use Rattle.hy_base.specs.Shape.{newest_version, shape_fault, IsWithin, IsGoodShape, is_within}
 use Rattle.hy_base.specs.Spelling.{Text}
 use Rattle.hy_base.specs.Value.{is_value}
 use Rattle.hy_base.specs.Limits.{IsServerNumber}
 use Rattle.hy_base.proofs.ShapeLemmas.{is_within-true}
-use Rattle.hy_script.specs.Fields.{and_then, one_number, two_numbers, three_numbers, four_numbers, number_and_text, no_fields}
-use Rattle.hy_script.specs.Grammar.{plain_mode, mode_at, is_position, last_program_count}
+use Rattle.hy_script.specs.Fields.{and_then, one_number, two_numbers, three_numbers, four_numbers, number_and_text, three_numbers_and_text, no_fields}
+use Rattle.hy_script.specs.Grammar.{plain_mode, mode_at, is_position, is_row, is_row_text, is_row_with, is_search, last_program_count, may_tell_tables}
 use Rattle.hy_script.specs.LineParts.{IsMode}
 use Rattle.hy_base.proofs.NumberLemmas.{number_of_decimal}
 use Rattle.hy_script.specs.ScriptLaws.{FitsFields, plain}
-use Rattle.hy_script.specs.ScriptFields.{client_fields, begin_fields, one_more_program, listing_line, mode_fields, number_within, one_more, position_field, program_line, put_fields, scan_fields, writing_line, servers_fields, servers_line, servers_numbers, servers_within, as_shape, good_shape, shape_fields, shape_line, shape_numbers, told_by_three, told_by_four, told_with_horizon}
+use Rattle.hy_script.specs.ScriptFields.{tables_fields, client_fields, begin_fields, one_more_program, listing_line, mode_fields, number_within, one_more, one_more_if, position_field, command_fields, program_line, put_fields, del_fields, add_fields, row_fields, unrow_fields, cell_fields, find_fields, scan_fields, writing_line, servers_fields, servers_line, servers_numbers, servers_within, as_shape, good_shape, shape_fields, shape_line, shape_numbers, told_by_three, told_by_four, told_with_horizon}
 use Rattle.hy_script.specs.ScriptSpelling.{asked_fields, begin_words, command_words, servers_words, spelled_shape}
 use Rattle.hy_script.specs.declared.script.ToldServers.{ToldServers}
 use Rattle.hy_script.specs.declared.script.ToldShape.{ToldShape}
 use Rattle.hy_script.specs.declared.script.ListingLine.{ListingLine}
-use Rattle.hy_script.specs.declared.script.ListingLine.TheVariants.{Client, Begin, Schedule}
+use Rattle.hy_script.specs.declared.script.ListingLine.TheVariants.{Tables, Client, Begin, Schedule}
 use Rattle.hy_script.specs.declared.script.ProgramLine.{ProgramLine}
 use Rattle.hy_script.specs.declared.script.ProgramLine.TheVariants.{Next, End}
 use Rattle.hy_script.specs.declared.why.Why.TheVariants.{Word, Form, Value, Range, Order, Count, Version}
 use Rattle.hy_script.proofs.ShapeLines.{passes_good}
-use Rattle.hy_script.proofs.FieldsRead.{and_then_was, branch, if_was, else_was, none_was, one_was, text_was, three_was, four_was, two_was, words_are}
+use Rattle.hy_script.proofs.FieldsRead.{and_then_was, branch, if_was, else_was, none_was, numbers_text_was, one_was, text_was, three_was, four_was, two_was, words_are}
 
 -- the shape and the servers
 
@@ -165,10 +167,24 @@ servers_was (word ∷ fields) told e =
 -- between programs
 
 abbrev pub IsListingLine : Workload → List Text → ListingLine → Type 0
+IsListingLine script words (Tables tables) = (words ≡ codes "tables" ∷ decimal tables ∷ []) × IsWithin 1 255 tables × (script.tables ≡ 0) × (script.clients ≡ [])
 IsListingLine script words (Client server) = (words ≡ codes "client" ∷ decimal server ∷ []) × IsWithin 1 script.servers server × (client_count script.clients server < 16)
 IsListingLine script words (Begin mode) =
     (words ≡ begin_words mode) × (0 < length script.clients) × (last_program_count script.clients < 10000) × (is_told script.shape.version mode.isolation ≡ true) × IsMode script.shape mode
 IsListingLine script words Schedule = words ≡ codes "schedule" ∷ []
+
+none_left : (clients : List ScriptClient) → length clients ≡ 0 → clients ≡ []
+none_left [] none = refl
+none_left (c ∷ clients) none = absurd (omega (arith, none))
+
+tables_was : (script : Workload) (word : Text) (fields : List Text) (read : ListingLine) → may_tell_tables script ≡ true → bytes_eq word (codes "tables") ≡ true → tables_fields fields ≡ Ok read → IsListingLine script (word ∷ fields) read
+tables_was script word fields read may named e =
+    let step = and_then_was (number_within 1 255 fields) (λ tables. Ok (Tables tables)) read e in
+    let same : Tables step.0 ≡ read = cc (step.2) in
+    let was = number_within_was 1 255 fields step.0 step.1 in
+    let parts = and_parts (script.tables == 0) (length script.clients == 0) may in
+    subst (IsListingLine script (word ∷ fields)) same
+    (words_are word (codes "tables") fields _ named was.0, was.1, eqb-true script.tables 0 parts.0, none_left script.clients (eqb-true (length script.clients) 0 parts.1))
 
 client_was : (script : Workload) (word : Text) (fields : List Text) (read : ListingLine) → bytes_eq word (codes "client") ≡ true → client_fields script fields ≡ Ok read → IsListingLine script (word ∷ fields) read
 client_was script word fields read named e =
@@ -226,41 +242,48 @@ pub listing_was : (sim : Bool) (script : Workload) (words : List Text) (read : L
 listing_was sim script [] read e = cc
 listing_was sim script (word ∷ fields) read e =
     branch (bytes_eq word (codes "client")) _ _ read e (λ named x. client_was script word fields read named x)
+    (λ named x. branch (may_tell_tables script && bytes_eq word (codes "tables")) _ _ read x
+    (λ both y. let parts = and_parts (may_tell_tables script) (bytes_eq word (codes "tables")) both in tables_was script word fields read parts.0 parts.1 y)
     (λ a x. branch (nat_lt 0 (length script.clients) && bytes_eq word (codes "begin")) _ _ read x
     (λ both y. let parts = and_parts (nat_lt 0 (length script.clients)) (bytes_eq word (codes "begin")) both in begin_was script word fields read parts.1 (ltb-true 0 (length script.clients) parts.0) y)
     (λ b y.
     let last = if_was (sim && bytes_eq word (codes "schedule")) (and_then (no_fields fields) (λ u. Ok Schedule)) Word read y in
-    schedule_was script word fields read (and_parts sim (bytes_eq word (codes "schedule")) last.0).1 last.1))
+    schedule_was script word fields read (and_parts sim (bytes_eq word (codes "schedule")) last.0).1 last.1)))
 
 -- in a program
 
 -- a command that may stand there, since it reads or the program may write
-pub record IsNextLine (reads : Bool) (count : ℕ) (words : List Text) (command : Command) : Type 0 where
+pub record IsNextLine (tables : ℕ) (reads : Bool) (count : ℕ) (words : List Text) (command : Command) : Type 0 where
   pub are : words ≡ command_words command
   pub fits : FitsFields command
   pub lawful : IsCommand command
   pub may : reads ≡ true → IsReading command
-  pub room : count < 64
+  pub fits_tables : FitsTables tables command
+  pub room : count + counts_as command ≤ 64
 
-abbrev pub IsProgramLine : Bool → ℕ → List Text → ProgramLine → Type 0
-IsProgramLine reads count words (Next command) = IsNextLine reads count words command
-IsProgramLine reads count words End = words ≡ codes "end" ∷ []
+abbrev pub IsProgramLine : ℕ → Bool → ℕ → List Text → ProgramLine → Type 0
+IsProgramLine tables reads count words (Next command) = IsNextLine tables reads count words command
+IsProgramLine tables reads count words End = words ≡ codes "end" ∷ []
 
-next_was : (reads : Bool) (count : ℕ) (words : List Text) (command : Command) (read : ProgramLine) → one_more count command ≡ Ok read → words ≡ command_words command → FitsFields command → IsCommand command
-    → (reads ≡ true → IsReading command) → IsProgramLine reads count words read
-next_was reads count words command read e same fits lawful may =
-    let tested = if_was (nat_lt count 64) (Ok (Next command)) Count read e in
-    let is : Next command ≡ read = cc (tested.1) in
-    subst (IsProgramLine reads count words) is (record { are = same; fits = fits; lawful = lawful; may = may; room = ltb-true count 64 tested.0 })
+module _ (tables : ℕ) (reads : Bool) (count : ℕ) (word : Text) (fields : List Text) (read : ProgramLine) where
+  -- what a line of these words was read as
+  abbrev WasRead : Type 0
+  WasRead = IsProgramLine tables reads count (word ∷ fields) read
 
-module _ (reads : Bool) (count : ℕ) (word : Text) (fields : List Text) (read : ProgramLine) where
-  get_was : bytes_eq word (codes "get") ≡ true → and_then (one_number fields) (λ key. one_more count (Get key)) ≡ Ok read → IsProgramLine reads count (word ∷ fields) read
+  next_was : (command : Command) → one_more count command ≡ Ok read → word ∷ fields ≡ command_words command → FitsFields command → IsCommand command → (reads ≡ true → IsReading command) → FitsTables tables command → WasRead
+  next_was command e same fits lawful may in_tables =
+      let tested = if_was (nat_le (count + counts_as command) 64) (Ok (Next command)) Count read e in
+      let is : Next command ≡ read = cc (tested.1) in
+      subst (IsProgramLine tables reads count (word ∷ fields)) is
+      (record { are = same; fits = fits; lawful = lawful; may = may; fits_tables = in_tables; room = leb-true (count + counts_as command) 64 tested.0 })
+
+  get_was : bytes_eq word (codes "get") ≡ true → and_then (one_number fields) (λ key. one_more count (Get key)) ≡ Ok read → WasRead
   get_was named e =
       let step = and_then_was (one_number fields) (λ key. one_more count (Get key)) read e in
       let was = one_was fields step.0 step.1 in
-      next_was reads count (word ∷ fields) (Get step.0) read step.2 (words_are word (codes "get") fields _ named was.0) was.1 tt (λ asks. tt)
+      next_was (Get step.0) step.2 (words_are word (codes "get") fields _ named was.0) was.1 tt (λ asks. tt) tt
 
-  scan_was : bytes_eq word (codes "scan") ≡ true → and_then (scan_fields fields) (one_more count) ≡ Ok read → IsProgramLine reads count (word ∷ fields) read
+  scan_was : bytes_eq word (codes "scan") ≡ true → and_then (scan_fields fields) (one_more count) ≡ Ok read → WasRead
   scan_was named e =
       let step = and_then_was (scan_fields fields) (one_more count) read e in
       let scan = and_then_was (three_numbers fields) (λ p. if is_within 1 1000 p.2 then (if nat_le p.0 p.1 then Ok (Scan p.0 p.1 p.2) else Err Order) else Err Range) step.0 step.1 in
@@ -269,51 +292,104 @@ module _ (reads : Bool) (count : ℕ) (word : Text) (fields : List Text) (read :
       let ranged = if_was (is_within 1 1000 p.2) (if nat_le p.0 p.1 then Ok (Scan p.0 p.1 p.2) else Err Order) Range step.0 scan.2 in
       let ordered = if_was (nat_le p.0 p.1) (Ok (Scan p.0 p.1 p.2)) Order step.0 ranged.1 in
       let is : step.0 ≡ Scan p.0 p.1 p.2 = cc (ordered.1) in
-      next_was reads count (word ∷ fields) (Scan p.0 p.1 p.2) read (ap (one_more count) (sym is) ∙ step.2) (words_are word (codes "scan") fields _ named was.words) was.second
-      (leb-true p.0 p.1 ordered.0, is_within-true 1 1000 p.2 ranged.0) (λ asks. tt)
+      next_was (Scan p.0 p.1 p.2) (ap (one_more count) (sym is) ∙ step.2) (words_are word (codes "scan") fields _ named was.words) was.second
+      (leb-true p.0 p.1 ordered.0, is_within-true 1 1000 p.2 ranged.0) (λ asks. tt) tt
 
-  end_was : bytes_eq word (codes "end") ≡ true → and_then (no_fields fields) (λ u. Ok End) ≡ Ok read → IsProgramLine reads count (word ∷ fields) read
+  end_was : bytes_eq word (codes "end") ≡ true → and_then (no_fields fields) (λ u. Ok End) ≡ Ok read → WasRead
   end_was named e =
       let step = and_then_was (no_fields fields) (λ u. Ok End) read e in
       let same : End ≡ read = cc (step.2) in
-      subst (IsProgramLine reads count (word ∷ fields)) same (words_are word (codes "end") fields _ named (none_was fields step.0 step.1))
+      subst (IsProgramLine tables reads count (word ∷ fields)) same (words_are word (codes "end") fields _ named (none_was fields step.0 step.1))
+
+  -- a row of one of the tables
+  row_in : (table row : ℕ) → is_row tables table row ≡ true → IsWithin 1 tables table × (row < row_limit)
+  row_in table row e = let parts = and_parts (is_within 1 tables table) (nat_lt row row_limit) e in (is_within-true 1 tables table parts.0, ltb-true row row_limit parts.1)
+
+  cell_was : bytes_eq word (codes "cell") ≡ true → cell_fields tables count fields ≡ Ok read → WasRead
+  cell_was named e =
+      let step = and_then_was (two_numbers fields) (λ p. one_more_if (is_row tables p.0 p.1) count (Cell p.0 p.1)) read e in
+      let p = step.0 in
+      let tested = if_was (is_row tables p.0 p.1) (one_more count (Cell p.0 p.1)) Range read step.2 in
+      let there = row_in p.0 p.1 tested.0 in
+      next_was (Cell p.0 p.1) tested.1 (words_are word (codes "cell") fields _ named (two_was fields p step.1).words) tt there.1 (λ asks. tt) there.0
+
+  find_was : bytes_eq word (codes "find") ≡ true → find_fields tables count fields ≡ Ok read → WasRead
+  find_was named e =
+      let step = and_then_was (three_numbers fields) (λ p. one_more_if (is_search tables p.0 p.1 p.2) count (Find p.0 p.1 p.2)) read e in
+      let p = step.0 in
+      let tested = if_was (is_search tables p.0 p.1 p.2) (one_more count (Find p.0 p.1 p.2)) Range read step.2 in
+      let table = and_parts (is_within 1 tables p.0) (nat_lt p.1 attribute_limit && is_within 1 1000 p.2) tested.0 in
+      let others = and_parts (nat_lt p.1 attribute_limit) (is_within 1 1000 p.2) table.1 in
+      next_was (Find p.0 p.1 p.2) tested.1 (words_are word (codes "find") fields _ named (three_was fields p step.1).words) tt
+      (ltb-true p.1 attribute_limit others.0, is_within-true 1 1000 p.2 others.1) (λ asks. tt) (is_within-true 1 tables p.0 table.0)
 
   -- a command that writes stands only where the program doesn't only read
   writes : {A : Type 0} → reads ≡ false → reads ≡ true → A
   writes plainly asks = absurd (cc (plainly, asks))
 
-  del_was : reads ≡ false → bytes_eq word (codes "del") ≡ true → and_then (one_number fields) (λ key. one_more count (Del key)) ≡ Ok read → IsProgramLine reads count (word ∷ fields) read
+  del_was : reads ≡ false → bytes_eq word (codes "del") ≡ true → del_fields tables count fields ≡ Ok read → WasRead
   del_was may named e =
-      let step = and_then_was (one_number fields) (λ key. one_more count (Del key)) read e in
+      let step = and_then_was (one_number fields) (λ key. one_more_if (not (is_table_key tables key)) count (Del key)) read e in
       let was = one_was fields step.0 step.1 in
-      next_was reads count (word ∷ fields) (Del step.0) read step.2 (words_are word (codes "del") fields _ named was.0) was.1 tt (writes may)
+      let tested = if_was (not (is_table_key tables step.0)) (one_more count (Del step.0)) Range read step.2 in
+      next_was (Del step.0) tested.1 (words_are word (codes "del") fields _ named was.0) was.1 tt (writes may) (not-true (is_table_key tables step.0) tested.0)
 
-  add_was : reads ≡ false → bytes_eq word (codes "add") ≡ true → and_then (two_numbers fields) (λ p. one_more count (Add p.0 p.1)) ≡ Ok read → IsProgramLine reads count (word ∷ fields) read
+  add_was : reads ≡ false → bytes_eq word (codes "add") ≡ true → add_fields tables count fields ≡ Ok read → WasRead
   add_was may named e =
-      let step = and_then_was (two_numbers fields) (λ p. one_more count (Add p.0 p.1)) read e in
-      let was = two_was fields step.0 step.1 in
-      next_was reads count (word ∷ fields) (Add step.0.0 step.0.1) read step.2 (words_are word (codes "add") fields _ named was.words) (was.first, was.second) tt (writes may)
+      let step = and_then_was (two_numbers fields) (λ p. one_more_if (not (is_table_key tables p.0)) count (Add p.0 p.1)) read e in
+      let p = step.0 in
+      let was = two_was fields p step.1 in
+      let tested = if_was (not (is_table_key tables p.0)) (one_more count (Add p.0 p.1)) Range read step.2 in
+      next_was (Add p.0 p.1) tested.1 (words_are word (codes "add") fields _ named was.words) (was.first, was.second) tt (writes may) (not-true (is_table_key tables p.0) tested.0)
 
-  put_was : reads ≡ false → bytes_eq word (codes "put") ≡ true → put_fields count fields ≡ Ok read → IsProgramLine reads count (word ∷ fields) read
+  put_was : reads ≡ false → bytes_eq word (codes "put") ≡ true → put_fields tables count fields ≡ Ok read → WasRead
   put_was may named e =
-      let step = and_then_was (number_and_text fields) (λ p. if is_value p.1 then one_more count (Put p.0 p.1) else Err Value) read e in
-      let was = text_was fields step.0 step.1 in
-      let tested = if_was (is_value step.0.1) (one_more count (Put step.0.0 step.0.1)) Value read step.2 in
-      next_was reads count (word ∷ fields) (Put step.0.0 step.0.1) read tested.1 (words_are word (codes "put") fields _ named was.0) was.1 tested.0 (writes may)
+      let step = and_then_was (number_and_text fields) (λ p. if is_value p.1 then one_more_if (not (is_table_key tables p.0)) count (Put p.0 p.1) else Err Value) read e in
+      let p = step.0 in
+      let was = text_was fields p step.1 in
+      let valued = if_was (is_value p.1) (one_more_if (not (is_table_key tables p.0)) count (Put p.0 p.1)) Value read step.2 in
+      let tested = if_was (not (is_table_key tables p.0)) (one_more count (Put p.0 p.1)) Range read valued.1 in
+      next_was (Put p.0 p.1) tested.1 (words_are word (codes "put") fields _ named was.0) was.1 valued.0 (writes may) (not-true (is_table_key tables p.0) tested.0)
 
-  writing_by : reads ≡ false → writing_line count word fields ≡ Ok read → IsProgramLine reads count (word ∷ fields) read
-  writing_by may e =
-      branch (bytes_eq word (codes "put")) _ _ read e (put_was may)
-      (λ a f. branch (bytes_eq word (codes "del")) _ _ read f (del_was may)
-      (λ b g. let last = if_was (bytes_eq word (codes "add")) (and_then (two_numbers fields) (λ p. one_more count (Add p.0 p.1))) Word read g in add_was may last.0 last.1))
+  row_was : reads ≡ false → bytes_eq word (codes "row") ≡ true → row_fields tables count fields ≡ Ok read → WasRead
+  row_was may named e =
+      let step = and_then_was (three_numbers_and_text fields) (λ p. if is_row_text p.3 then one_more_if (is_row_with tables p.0 p.1 p.2) count (Row p.0 p.1 p.2 p.3) else Err Value) read e in
+      let p = step.0 in
+      let valued = if_was (is_row_text p.3) (one_more_if (is_row_with tables p.0 p.1 p.2) count (Row p.0 p.1 p.2 p.3)) Value read step.2 in
+      let tested = if_was (is_row_with tables p.0 p.1 p.2) (one_more count (Row p.0 p.1 p.2 p.3)) Range read valued.1 in
+      let text = and_parts (is_value p.3) (nat_le (length p.3) text_limit) valued.0 in
+      let parts = and_parts (is_row tables p.0 p.1) (nat_lt p.2 attribute_limit) tested.0 in
+      let there = row_in p.0 p.1 parts.0 in
+      next_was (Row p.0 p.1 p.2 p.3) tested.1 (words_are word (codes "row") fields _ named (numbers_text_was fields p step.1).words) tt
+      (there.1, ltb-true p.2 attribute_limit parts.1, record { value = text.0; short = leb-true (length p.3) text_limit text.1 }) (writes may) there.0
 
-  program_by : program_line reads count (word ∷ fields) ≡ Ok read → IsProgramLine reads count (word ∷ fields) read
-  program_by e =
-      branch (bytes_eq word (codes "get")) _ _ read e get_was
-      (λ a f. branch (bytes_eq word (codes "scan")) _ _ read f scan_was
-      (λ b g. branch (bytes_eq word (codes "end")) _ _ read g end_was
-      (λ c h. let last = else_was reads (writing_line count word fields) Word read h in writing_by last.0 last.1)))
+  unrow_was : reads ≡ false → bytes_eq word (codes "unrow") ≡ true → unrow_fields tables count fields ≡ Ok read → WasRead
+  unrow_was may named e =
+      let step = and_then_was (two_numbers fields) (λ p. one_more_if (is_row tables p.0 p.1) count (Unrow p.0 p.1)) read e in
+      let p = step.0 in
+      let tested = if_was (is_row tables p.0 p.1) (one_more count (Unrow p.0 p.1)) Range read step.2 in
+      let there = row_in p.0 p.1 tested.0 in
+      next_was (Unrow p.0 p.1) tested.1 (words_are word (codes "unrow") fields _ named (two_was fields p step.1).words) tt there.1 (writes may) there.0
 
-pub program_was : (reads : Bool) (count : ℕ) (words : List Text) (read : ProgramLine) → program_line reads count words ≡ Ok read → IsProgramLine reads count words read
-program_was reads count [] read e = cc
-program_was reads count (word ∷ fields) read e = program_by reads count word fields read e
+  module _ (has_tables : Bool) where
+    writing_by : reads ≡ false → writing_line has_tables tables count word fields ≡ Ok read → WasRead
+    writing_by may e =
+        branch (bytes_eq word (codes "put")) _ _ read e (put_was may)
+        (λ a f. branch (bytes_eq word (codes "del")) _ _ read f (del_was may)
+        (λ b g. branch (bytes_eq word (codes "add")) _ _ read g (add_was may)
+        (λ c h. branch (has_tables && bytes_eq word (codes "row")) _ _ read h (λ both x. row_was may (and_parts has_tables (bytes_eq word (codes "row")) both).1 x)
+        (λ d x. let last = if_was (has_tables && bytes_eq word (codes "unrow")) (unrow_fields tables count fields) Word read x in
+        unrow_was may (and_parts has_tables (bytes_eq word (codes "unrow")) last.0).1 last.1))))
+
+    program_by : command_fields has_tables reads tables count word fields ≡ Ok read → WasRead
+    program_by e =
+        branch (bytes_eq word (codes "get")) _ _ read e get_was
+        (λ a f. branch (bytes_eq word (codes "scan")) _ _ read f scan_was
+        (λ b g. branch (bytes_eq word (codes "end")) _ _ read g end_was
+        (λ c h. branch (has_tables && bytes_eq word (codes "cell")) _ _ read h (λ both x. cell_was (and_parts has_tables (bytes_eq word (codes "cell")) both).1 x)
+        (λ d i. branch (has_tables && bytes_eq word (codes "find")) _ _ read i (λ both x. find_was (and_parts has_tables (bytes_eq word (codes "find")) both).1 x)
+        (λ j k. let last = else_was reads (writing_line has_tables tables count word fields) Word read k in writing_by last.0 last.1)))))
+
+pub program_was : (tables : ℕ) (reads : Bool) (count : ℕ) (words : List Text) (read : ProgramLine) → program_line tables reads count words ≡ Ok read → IsProgramLine tables reads count words read
+program_was tables reads count [] read e = cc
+program_was tables reads count (word ∷ fields) read e = program_by tables reads count word fields read (nat_lt 0 tables) e

@@ -1,5 +1,5 @@
 -- What a script spells is read as that script.
-use Rattle.std.proofs.Common.{arith, ◌≡◌, ℕ, ◌+◌, ◌*◌, ◌<◌, ◌≤◌, ◌^◌, ◌==◌, Bool, true, false, cond, if◌then◌else◌, List, [], ◌∷◌, ◌++◌, length, refl, sym, ap, subst, ◌∙◌, append_assoc, append-nil, length-append}
+use Rattle.std.proofs.Common.{arith, zero, suc, eqb-true, ◌≡◌, ℕ, ◌+◌, ◌*◌, ◌<◌, ◌≤◌, ◌^◌, ◌==◌, Bool, true, false, cond, if◌then◌else◌, List, [], ◌∷◌, ◌++◌, length, refl, sym, ap, subst, ◌∙◌, append_assoc, append-nil, length-append}
 use Rattle.std.specs.Prelude.{map, flat_map, is_some, Option, Some, None, IfSome, Ok, All, codes, decimal}
 use Rattle.std.specs.List.{AllByRecursion, join_with_byte, list_all}
 use Rattle.std.proofs.lemmas.Bool.{and_parts}
@@ -12,12 +12,12 @@ use Rattle.hy_base.specs.declared.layout.Shape.{Shape}
 use Rattle.hy_base.specs.declared.record.Isolation.{Isolation}
 use Rattle.hy_base.specs.declared.record.Isolation.TheVariants.{Serializable, Snapshot}
 use Rattle.hy_base.specs.declared.workload.Command.{Command}
-use Rattle.hy_base.specs.declared.workload.Command.TheVariants.{Get, Put, Del, Add, Scan}
+use Rattle.hy_base.specs.declared.workload.Command.TheVariants.{Get, Put, Del, Add, Scan, Row, Unrow, Cell, Find}
 use Rattle.hy_base.specs.declared.workload.Client.{Client}
 use Rattle.hy_base.specs.declared.workload.Program.{Program}
 use Rattle.hy_base.specs.Entry.{is_told}
 use Rattle.hy_base.specs.declared.workload.Mode.{Mode}
-use Rattle.hy_base.specs.Script.{Workload, AreTold, AskForGroups, IsAsOf, IsClient, IsCommand, IsProgram, IsReading, client_count, home_of, mode_of}
+use Rattle.hy_base.specs.Script.{Workload, AreTold, AskForGroups, ClientFitsTables, FitsTables, IsAsOf, IsClient, IsCommand, IsProgram, IsReading, client_count, command_count, counts_as, home_of, mode_of}
 use Rattle.hy_base.specs.Shape.{IsGoodShape, IsWithin}
 use Rattle.hy_base.specs.Spelling.{Text}
 use Rattle.hy_base.specs.Limits.{IsServerNumber}
@@ -28,9 +28,9 @@ use Rattle.hy_script.specs.LineParts.{IsMode, after_listing, after_program_line,
 use Rattle.hy_script.specs.declared.script.ProgramLine.TheVariants.{End}
 use Rattle.hy_script.specs.ScriptReading.{place_after, place_after_all}
 use Rattle.hy_script.specs.ScriptFields.{listing_line, program_line, servers_line, shape_line}
-use Rattle.hy_script.specs.ScriptSpelling.{asked_fields, begin_words, client_lines, command_words, horizon_fields, servers_words, spelled_shape, program_lines, script_lines, script_text, text_of_lines}
+use Rattle.hy_script.specs.ScriptSpelling.{asked_fields, begin_words, client_lines, command_words, horizon_fields, servers_words, spelled_shape, program_lines, script_lines, script_text, tables_lines, text_of_lines}
 use Rattle.hy_script.proofs.Drafts.{change_last_is, last_program_count_is, script_with, counted_at}
-use Rattle.hy_script.proofs.LinesAgain.{begin_again, client_again, command_again, servers_again, shape_again}
+use Rattle.hy_script.proofs.LinesAgain.{begin_again, client_again, command_again, servers_again, shape_again, tables_again}
 use Rattle.hy_script.proofs.LinesSpelled.{IsSpeech, is_visible, lines_first, numbered_first, visible_decimal, visible_value, words_spelled}
 use Rattle.hy_script.proofs.ProgramLines.{listing_leads, program_leads}
 use Rattle.hy_script.proofs.ReadLemmas.{whole, then_all}
@@ -111,6 +111,25 @@ servers_walk sim shape servers keeps within kept =
     (record { visible = (refl, (visible_decimal servers (omega (arith, within.at_most)), visible_version (keeps == 1) keeps [] (omega (arith, kept.at_most)) tt)); says_some = refl })
     (λ number line e. sym (servers_leads sim shape number (words_of line)) ∙ ap (leading (listing_of shape)) (ap servers_line e ∙ servers_again servers keeps within kept))
 
+-- a script without clients
+abbrev without_clients : Workload → ℕ → Workload
+without_clients script tables = record { shape = script.shape; servers = script.servers; keeps = script.keeps; tables = tables; clients = [] }
+
+at_least_one : (n : ℕ) → (n == 0) ≡ false → 1 ≤ n
+at_least_one zero e = cc
+at_least_one (suc n) e = omega arith
+
+tables_walk : (sim : Bool) (script : Workload) (tables : ℕ) → tables ≤ 255 → Walks sim (Listing (without_clients script 0)) (tables_lines tables) (Listing (without_clients script tables))
+tables_walk sim script tables few = by (tables == 0) refl where
+  by : (t : Bool) → (tables == 0) ≡ t → Walks sim (Listing (without_clients script 0)) (if t then [] else (codes "tables" ∷ decimal tables ∷ []) ∷ []) (Listing (without_clients script tables))
+  by true e = subst (λ n. Walks sim (Listing (without_clients script 0)) [] (Listing (without_clients script n))) (sym (eqb-true tables 0 e)) (stays sim (Listing (without_clients script 0)))
+  by false e =
+      let place = without_clients script 0 in
+      one_line sim (Listing place) (Listing (without_clients script tables)) (codes "tables" ∷ decimal tables ∷ [])
+      (record { visible = (refl, (visible_decimal tables (omega (arith, few)), tt)); says_some = refl })
+      (λ number line e2. sym (listing_leads sim number place (words_of line))
+      ∙ ap (leading (after_listing place number)) (ap (listing_line sim place) e2 ∙ tables_again sim place tables refl (record { at_least = at_least_one tables e; at_most = few })))
+
 abbrev without_programs : ℕ → Client
 without_programs server = record { server = server; programs = [] }
 
@@ -133,71 +152,103 @@ begin_walks sim script mode good some room told asks =
     one_line sim (Listing script) (Programming script (begun mode)) _ (record { visible = (refl, visible_asked script.shape good mode.isolation mode.as_of asks.0); says_some = refl })
     (λ number line e. sym (listing_leads sim number script (words_of line)) ∙ ap (leading (after_listing script number)) (ap (listing_line sim script) e ∙ begin_again sim script mode good some room told asks))
 
-end_again : (reads : Bool) (count : ℕ) → program_line reads count (codes "end" ∷ []) ≡ Ok End
-end_again reads count = refl
+end_again : (tables : ℕ) (reads : Bool) (count : ℕ) → program_line tables reads count (codes "end" ∷ []) ≡ Ok End
+end_again tables reads count = refl
 
 end_walks : (sim : Bool) (script : Workload) (program : Program) → Walks sim (Programming script program) ((codes "end" ∷ []) ∷ []) (Listing (with_program program script))
 end_walks sim script program =
     one_line sim (Programming script program) (Listing (with_program program script)) _ (record { visible = (refl, tt); says_some = refl })
-    (λ number line e. sym (program_leads sim number script program (words_of line)) ∙ ap (leading (after_program_line script program)) (ap (program_line (is_some program.as_of) (length program.commands)) e ∙ end_again (is_some program.as_of) (length program.commands)))
+    (λ number line e. sym (program_leads sim number script program (words_of line)) ∙ ap (leading (after_program_line script program)) (ap (program_line script.tables (is_some program.as_of) (command_count program.commands)) e ∙ end_again script.tables (is_some program.as_of) (command_count program.commands)))
 
 -- commands, programs and clients
 
-command_speech : (command : Command) → FitsFields command → IsCommand command → IsSpeech (command_words command)
-command_speech (Get key) fits lawful = record { visible = (refl, (visible_decimal key fits, tt)); says_some = refl }
-command_speech (Put key value) fits lawful = record { visible = (refl, (visible_decimal key fits, (visible_value value lawful, tt))); says_some = refl }
-command_speech (Del key) fits lawful = record { visible = (refl, (visible_decimal key fits, tt)); says_some = refl }
-command_speech (Add key n) fits lawful = record { visible = (refl, (visible_decimal key fits.0, (visible_decimal n fits.1, tt))); says_some = refl }
-command_speech (Scan lo hi n) fits lawful = record {
+command_speech : (tables : ℕ) (command : Command) → tables ≤ 255 → FitsFields command → IsCommand command → FitsTables tables command → IsSpeech (command_words command)
+command_speech tables (Get key) few fits lawful there = record { visible = (refl, (visible_decimal key fits, tt)); says_some = refl }
+command_speech tables (Put key value) few fits lawful there = record { visible = (refl, (visible_decimal key fits, (visible_value value lawful, tt))); says_some = refl }
+command_speech tables (Del key) few fits lawful there = record { visible = (refl, (visible_decimal key fits, tt)); says_some = refl }
+command_speech tables (Add key n) few fits lawful there = record { visible = (refl, (visible_decimal key fits.0, (visible_decimal n fits.1, tt))); says_some = refl }
+command_speech tables (Scan lo hi n) few fits lawful there = record {
   visible = (refl, (visible_decimal lo (omega (arith, fits, lawful.0)), (visible_decimal hi fits, (visible_decimal n (omega (arith, lawful.1.at_most)), tt))));
   says_some = refl;
 }
+command_speech tables (Row table row attribute text) few fits lawful there = record {
+  visible = (
+    refl,
+    (
+      visible_decimal table (omega (arith, few, there.at_most)),
+      (visible_decimal row (omega (arith, lawful.0)), (visible_decimal attribute (omega (arith, lawful.1)), (visible_value text lawful.2.value, tt))),
+    ),
+  );
+  says_some = refl;
+}
+command_speech tables (Unrow table row) few fits lawful there = record {
+  visible = (refl, (visible_decimal table (omega (arith, few, there.at_most)), (visible_decimal row (omega (arith, lawful)), tt)));
+  says_some = refl;
+}
+command_speech tables (Cell table row) few fits lawful there = record {
+  visible = (refl, (visible_decimal table (omega (arith, few, there.at_most)), (visible_decimal row (omega (arith, lawful)), tt)));
+  says_some = refl;
+}
+command_speech tables (Find table attribute n) few fits lawful there = record {
+  visible = (
+    refl,
+    (visible_decimal table (omega (arith, few, there.at_most)), (visible_decimal attribute (omega (arith, lawful.0)), (visible_decimal n (omega (arith, lawful.1.at_most)), tt))),
+  );
+  says_some = refl;
+}
 
-command_walks : (sim : Bool) (script : Workload) (program : Program) (command : Command) → FitsFields command → IsCommand command → (is_some program.as_of ≡ true → IsReading command) → length program.commands < 64
-    → Walks sim (Programming script program) (command_words command ∷ []) (Programming script (gains_command command program))
-command_walks sim script program command fits lawful may room =
-    one_line sim (Programming script program) (Programming script (gains_command command program)) (command_words command) (command_speech command fits lawful)
+command_walks : (sim : Bool) (script : Workload) (program : Program) (command : Command) → script.tables ≤ 255 → FitsFields command → IsCommand command → (is_some program.as_of ≡ true → IsReading command) → FitsTables script.tables command
+    → command_count program.commands + counts_as command ≤ 64 → Walks sim (Programming script program) (command_words command ∷ []) (Programming script (gains_command command program))
+command_walks sim script program command few fits lawful may there room =
+    let reads = is_some program.as_of in
+    let count = command_count program.commands in
+    one_line sim (Programming script program) (Programming script (gains_command command program)) (command_words command) (command_speech script.tables command few fits lawful there)
     (λ number line e. sym (program_leads sim number script program (words_of line))
-    ∙ ap (leading (after_program_line script program)) (ap (program_line (is_some program.as_of) (length program.commands)) e ∙ command_again (is_some program.as_of) (length program.commands) command fits lawful may room))
+    ∙ ap (leading (after_program_line script program)) (ap (program_line script.tables reads count) e ∙ command_again script.tables reads count command few fits lawful may there room))
 
 -- a program that asks for this, with these commands
 abbrev with_commands : Mode → List Command → Program
 with_commands mode commands = record { isolation = mode.isolation; as_of = mode.as_of; commands = commands }
 
-commands_walk : (sim : Bool) (script : Workload) (mode : Mode) (before commands : List Command) → AllByRecursion FitsFields commands → All IsCommand commands → (is_some mode.as_of ≡ true → All IsReading commands)
-    → length before + length commands ≤ 64
+commands_walk : (sim : Bool) (script : Workload) (mode : Mode) (before commands : List Command) → script.tables ≤ 255 → AllByRecursion FitsFields commands → All IsCommand commands → (is_some mode.as_of ≡ true → All IsReading commands)
+    → All (FitsTables script.tables) commands → command_count before + command_count commands ≤ 64
     → Walks sim (Programming script (with_commands mode before)) (map command_words commands) (Programming script (with_commands mode (before ++ commands)))
-commands_walk sim script mode before [] fits lawful may few = subst (λ l. Walks sim (Programming script (with_commands mode before)) [] (Programming script (with_commands mode l))) (sym (append-nil before)) (stays sim (Programming script (with_commands mode before)))
-commands_walk sim script mode before (command ∷ commands) fits lawful may few =
-    let more : length (before ++ command ∷ []) + length commands ≤ 64 = omega (arith, few, length-append before (command ∷ [])) in
-    let room : length before < 64 = omega (arith, few) in
+commands_walk sim script mode before [] few fits lawful may there room = subst (λ l. Walks sim (Programming script (with_commands mode before)) [] (Programming script (with_commands mode l))) (sym (append-nil before)) (stays sim (Programming script (with_commands mode before)))
+commands_walk sim script mode before (command ∷ commands) few fits lawful may there room =
+    let Fits : Command → Type 0 = FitsTables script.tables in
+    let all : command_count (command ∷ commands) ≡ counts_as command + command_count commands = sum_by-cons counts_as command commands in
+    let one : command_count (command ∷ []) ≡ counts_as command = omega (arith, sum_by-cons counts_as command []) in
+    let grown : command_count (before ++ command ∷ []) ≡ command_count before + command_count (command ∷ []) = sum_by-append counts_as before (command ∷ []) in
+    let more : command_count (before ++ command ∷ []) + command_count commands ≤ 64 = omega (arith, room, all, one, grown) in
+    let now : command_count before + counts_as command ≤ 64 = omega (arith, room, all) in
     subst (λ l. Walks sim (Programming script (with_commands mode before)) (map command_words (command ∷ commands)) (Programming script (with_commands mode l))) (append_assoc before (command ∷ []) commands)
     (then_walks sim (Programming script (with_commands mode before)) (Programming script (with_commands mode (before ++ command ∷ []))) (Programming script (with_commands mode ((before ++ command ∷ []) ++ commands))) (command_words command ∷ []) (map command_words commands)
-    (command_walks sim script (with_commands mode before) command fits.0 (All-head IsCommand command commands lawful) (λ asks. All-head IsReading command commands (may asks)) room)
-    (commands_walk sim script mode (before ++ command ∷ []) commands fits.1 (All-tail IsCommand command commands lawful) (λ asks. All-tail IsReading command commands (may asks)) more))
+    (command_walks sim script (with_commands mode before) command few fits.0 (All-head IsCommand command commands lawful) (λ asks. All-head IsReading command commands (may asks)) (All-head Fits command commands there) now)
+    (commands_walk sim script mode (before ++ command ∷ []) commands few fits.1 (All-tail IsCommand command commands lawful) (λ asks. All-tail IsReading command commands (may asks)) (All-tail Fits command commands there) more))
 
 program_walks : (sim : Bool) (script : Workload) (program : Program) → IsGoodShape script.shape → ProgramFits program → IsProgram program → 0 < length script.clients → last_program_count script.clients < 10000
-    → is_told script.shape.version program.isolation ≡ true → IsAsOf script.shape program.as_of
+    → is_told script.shape.version program.isolation ≡ true → IsAsOf script.shape program.as_of → script.tables ≤ 255 → All (FitsTables script.tables) program.commands
     → Walks sim (Listing script) (program_lines program) (Listing (with_program program script))
-program_walks sim script program good fits lawful some room told asks =
+program_walks sim script program good fits lawful some room told asks few there =
     let commands = program.commands in
     let mode = mode_of program in
     then_walks sim (Listing script) (Programming script (begun mode)) (Listing (with_program program script)) (begin_words mode ∷ []) (map command_words commands ++ (codes "end" ∷ []) ∷ [])
     (begin_walks sim script mode good some room told (asks, lawful.plain))
     (then_walks sim (Programming script (begun mode)) (Programming script program) (Listing (with_program program script)) (map command_words commands) ((codes "end" ∷ []) ∷ [])
-    (commands_walk sim script mode [] commands fits lawful.commands lawful.reads (omega (arith, lawful.count))) (end_walks sim script program))
+    (commands_walk sim script mode [] commands few fits lawful.commands lawful.reads there (omega (arith, lawful.count))) (end_walks sim script program))
 
 abbrev with_programs : Client → List Program → Client
 with_programs c programs = record { server = c.server; programs = programs }
 
 programs_walk : (sim : Bool) (script : Workload) (front : List Client) (server : ℕ) (before programs : List Program) → IsGoodShape script.shape → AllByRecursion ProgramFits programs → All IsProgram programs → AreTold script.shape.version (map mode_of programs)
-    → AllByRecursion (λ m. IsAsOf script.shape m.as_of) (map mode_of programs) → length before + length programs ≤ 10000
+    → AllByRecursion (λ m. IsAsOf script.shape m.as_of) (map mode_of programs) → script.tables ≤ 255 → All (λ p. All (FitsTables script.tables) p.commands) programs → length before + length programs ≤ 10000
     → Walks sim (Listing (script_with script (front ++ record { server = server; programs = before } ∷ []))) (flat_map program_lines programs)
     (Listing (script_with script (front ++ record { server = server; programs = before ++ programs } ∷ [])))
-programs_walk sim script front server before [] good fits lawful told asks few =
+programs_walk sim script front server before [] good fits lawful told asks numbered there few =
     let place = Listing (script_with script (front ++ record { server = server; programs = before } ∷ [])) in
     subst (λ l. Walks sim place [] (Listing (script_with script (front ++ record { server = server; programs = l } ∷ [])))) (sym (append-nil before)) (stays sim place)
-programs_walk sim script front server before (program ∷ programs) good fits lawful told asks few =
+programs_walk sim script front server before (program ∷ programs) good fits lawful told asks numbered there few =
+    let Fits : Program → Type 0 = λ p. All (FitsTables script.tables) p.commands in
     let parts = and_parts (is_told script.shape.version program.isolation) (list_all (λ m. is_told script.shape.version m.isolation) (map mode_of programs)) told in
     let client : Client = record { server = server; programs = before } in
     let now = script_with script (front ++ client ∷ []) in
@@ -209,19 +260,19 @@ programs_walk sim script front server before (program ∷ programs) good fits la
     let last = Listing (script_with script (front ++ record { server = server; programs = before ++ program ∷ programs } ∷ [])) in
     then_walks sim (Listing now) (Listing (script_with script next)) last (program_lines program) (flat_map program_lines programs)
     (subst (λ l. Walks sim (Listing now) (program_lines program) (Listing (script_with script l))) changed
-    (program_walks sim now program good fits.0 (All-head IsProgram program programs lawful) some room parts.0 asks.0))
+    (program_walks sim now program good fits.0 (All-head IsProgram program programs lawful) some room parts.0 asks.0 numbered (All-head Fits program programs there)))
     (subst (λ l. Walks sim (Listing (script_with script next)) (flat_map program_lines programs) (Listing (script_with script (front ++ record { server = server; programs = l } ∷ []))))
     (append_assoc before (program ∷ []) programs)
-    (programs_walk sim script front server (before ++ program ∷ []) programs good fits.1 (All-tail IsProgram program programs lawful) parts.1 asks.1 more))
+    (programs_walk sim script front server (before ++ program ∷ []) programs good fits.1 (All-tail IsProgram program programs lawful) parts.1 asks.1 numbered (All-tail Fits program programs there) more))
 
 whole_client : (sim : Bool) (script : Workload) (front : List Client) (c : Client) → IsGoodShape script.shape → ClientFits c → IsClient script.servers c → AreTold script.shape.version (home_of c).programs
-    → AllByRecursion (λ m. IsAsOf script.shape m.as_of) (home_of c).programs → script.servers ≤ 8 → client_count front c.server < 16
+    → AllByRecursion (λ m. IsAsOf script.shape m.as_of) (home_of c).programs → script.tables ≤ 255 → ClientFitsTables script.tables c → script.servers ≤ 8 → client_count front c.server < 16
     → Walks sim (Listing (script_with script front)) (client_lines c) (Listing (script_with script (front ++ c ∷ [])))
-whole_client sim script front c good fits lawful told asks few room =
+whole_client sim script front c good fits lawful told asks numbered there few room =
     then_walks sim (Listing (script_with script front)) (Listing (script_with script (front ++ without_programs c.server ∷ []))) (Listing (script_with script (front ++ c ∷ [])))
     ((codes "client" ∷ decimal c.server ∷ []) ∷ []) (flat_map program_lines c.programs)
     (client_walks sim script front c.server few lawful.server room)
-    (programs_walk sim script front c.server [] c.programs good fits lawful.programs told asks (omega (arith, lawful.count)))
+    (programs_walk sim script front c.server [] c.programs good fits lawful.programs told asks numbered there (omega (arith, lawful.count)))
 
 itself : (c : Client) → counted_at c.server c ≡ 1
 itself c = let same : (c.server == c.server) ≡ true = grind (arith, nat_tests) in ap (λ t. cond t 1 0) same
@@ -233,28 +284,32 @@ has_room front cs c few =
     omega (arith, few, all, first, itself c)
 
 clients_walk : (sim : Bool) (script : Workload) (front cs : List Client) → IsGoodShape script.shape → AllByRecursion ClientFits cs → All (IsClient script.servers) cs → All (λ c. AreTold script.shape.version (home_of c).programs) cs
-    → AskForGroups script.shape (map home_of cs) → script.servers ≤ 8 → ((k : ℕ) → client_count (front ++ cs) k ≤ 16)
+    → AskForGroups script.shape (map home_of cs) → script.tables ≤ 255 → All (ClientFitsTables script.tables) cs → script.servers ≤ 8 → ((k : ℕ) → client_count (front ++ cs) k ≤ 16)
     → Walks sim (Listing (script_with script front)) (flat_map client_lines cs) (Listing (script_with script (front ++ cs)))
-clients_walk sim script front [] good fits lawful told asks few counts =
+clients_walk sim script front [] good fits lawful told asks numbered there few counts =
     let place = Listing (script_with script front) in
     subst (λ l. Walks sim place [] (Listing (script_with script l))) (sym (append-nil front)) (stays sim place)
-clients_walk sim script front (c ∷ cs) good fits lawful told asks few counts =
+clients_walk sim script front (c ∷ cs) good fits lawful told asks numbered there few counts =
+    let Fits : Client → Type 0 = ClientFitsTables script.tables in
     let all = append_assoc front (c ∷ []) cs in
     let Told : Client → Type 0 = λ d. AreTold script.shape.version (home_of d).programs in
     then_walks sim (Listing (script_with script front)) (Listing (script_with script (front ++ c ∷ []))) (Listing (script_with script (front ++ c ∷ cs))) (client_lines c) (flat_map client_lines cs)
-    (whole_client sim script front c good fits.0 (All-head (IsClient script.servers) c cs lawful) (All-head Told c cs told) asks.0 few (has_room front cs c (counts c.server)))
+    (whole_client sim script front c good fits.0 (All-head (IsClient script.servers) c cs lawful) (All-head Told c cs told) asks.0 numbered (All-head Fits c cs there) few (has_room front cs c (counts c.server)))
     (subst (λ l. Walks sim (Listing (script_with script (front ++ c ∷ []))) (flat_map client_lines cs) (Listing (script_with script l))) all
-    (clients_walk sim script (front ++ c ∷ []) cs good fits.1 (All-tail (IsClient script.servers) c cs lawful) (All-tail Told c cs told) asks.1 few (λ k. subst (λ l. client_count l k ≤ 16) (sym all) (counts k))))
+    (clients_walk sim script (front ++ c ∷ []) cs good fits.1 (All-tail (IsClient script.servers) c cs lawful) (All-tail Told c cs told) asks.1 numbered (All-tail Fits c cs there) few (λ k. subst (λ l. client_count l k ≤ 16) (sym all) (counts k))))
 
 pub script_walks : (sim : Bool) (script : Workload) → IsScriptSpellable script → Walks sim AtStart (script_lines script) (Listing script)
 script_walks sim script s =
     let shape = script.shape in
-    then_walks sim AtStart (Shaped shape) (Listing script) (spelled_shape shape ∷ [])
-    (servers_words script.servers script.keeps ∷ flat_map client_lines script.clients)
+    let rest = flat_map client_lines script.clients in
+    let listing = listing_of shape (record { servers = script.servers; keeps = script.keeps }) in
+    then_walks sim AtStart (Shaped shape) (Listing script) (spelled_shape shape ∷ []) (servers_words script.servers script.keeps ∷ tables_lines script.tables ++ rest)
     (shape_walks sim shape s.lawful.shape)
-    (then_walks sim (Shaped shape) (listing_of shape (record { servers = script.servers; keeps = script.keeps })) (Listing script) (servers_words script.servers script.keeps ∷ []) (flat_map client_lines script.clients)
+    (then_walks sim (Shaped shape) listing (Listing script) (servers_words script.servers script.keeps ∷ []) (tables_lines script.tables ++ rest)
     (servers_walk sim shape script.servers script.keeps s.lawful.servers s.lawful.keeps)
-    (clients_walk sim script [] script.clients s.lawful.shape s.clients s.lawful.clients s.lawful.isolations s.lawful.positions s.lawful.servers.at_most s.lawful.client_count))
+    (then_walks sim listing (Listing (script_with script [])) (Listing script) (tables_lines script.tables) rest
+    (tables_walk sim script script.tables s.lawful.tables)
+    (clients_walk sim script [] script.clients s.lawful.shape s.clients s.lawful.clients s.lawful.isolations s.lawful.positions s.lawful.tables s.lawful.fits_tables s.lawful.servers.at_most s.lawful.client_count)))
 
 pub reads_scripts : ReadsItsSpelling
 reads_scripts script sim s short =

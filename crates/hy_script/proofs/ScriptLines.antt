@@ -10,9 +10,9 @@ use Rattle.hy_base.specs.Shape.{is_within}
 use Rattle.hy_base.specs.Spelling.{Text, number_of}
 use Rattle.hy_script.specs.Forms.{is_blank, judged_words, read_fields, read_line}
 use Rattle.hy_script.specs.Fields.{and_then, one_number, no_fields}
-use Rattle.hy_script.specs.Grammar.{Place, Shaped, Listing, last_program_count, forms_at, makes_if, served, servers_forms}
+use Rattle.hy_script.specs.Grammar.{Place, Shaped, Listing, last_program_count, may_tell_tables, forms_at, makes_if, served, servers_forms}
 use Rattle.hy_script.specs.LineParts.{leading}
-use Rattle.hy_script.specs.ScriptFields.{servers_line, servers_numbers, servers_within, begin_fields, one_more_program, mode_fields, position_field, listing_line}
+use Rattle.hy_script.specs.ScriptFields.{servers_line, servers_numbers, servers_within, tables_fields, begin_fields, one_more_program, mode_fields, position_field, listing_line}
 use Rattle.hy_base.specs.declared.workload.Mode.{Mode}
 use Rattle.hy_script.specs.declared.script.ToldServers.{ToldServers}
 use Rattle.hy_script.specs.declared.script.ListingLine.{ListingLine}
@@ -20,11 +20,11 @@ use Rattle.hy_script.specs.declared.script.ListingLine.TheVariants.{Schedule}
 use Rattle.hy_script.specs.declared.why.Why.{Why}
 use Rattle.hy_script.specs.declared.why.Why.TheVariants.{Word, Form, Range}
 use Rattle.std.proofs.lemmas.Slice.Eq.{bytes_eq-Decides}
-use Rattle.hy_script.proofs.FieldLemmas.{no_form, one_field, two_fields}
+use Rattle.hy_script.proofs.FieldLemmas.{no_form, one_field, passes, two_fields}
 
 -- the place after a line of servers
 abbrev pub listing_of : Shape → ToldServers → Place
-listing_of shape told = Listing (record { shape = shape; servers = told.servers; keeps = told.keeps; clients = [] })
+listing_of shape told = Listing (record { shape = shape; servers = told.servers; keeps = told.keeps; tables = 0; clients = [] })
 
 servers_test : (t : Bool) (shape : Shape) (told : ToldServers) → judged_words (makes_if ((t, Range) ∷ []) (listing_of shape told)) ≡ leading (listing_of shape) (if t then Ok told else Err Range)
 servers_test true shape told = refl
@@ -80,7 +80,8 @@ pub begin_listed : (sim : Bool) (script : Workload) (last : Client) (words rest 
     → read ≡ and_then (mode_fields script.shape rest) (one_more_program script.shape.version (length last.programs))
     → read ≡ listing_line sim script words
 begin_listed sim script last words rest word read split named some count is =
-    let begins : listing_line sim script (codes "begin" ∷ rest) ≡ begin_fields script rest = ap (λ t. if t && true then begin_fields script rest else if sim && false then and_then (no_fields rest) (λ u. Ok Schedule) else Err Word) some in
+    let begins : listing_line sim script (codes "begin" ∷ rest) ≡ begin_fields script rest =
+    passes (may_tell_tables script) (tables_fields rest) _ ∙ ap (λ t. if t && true then begin_fields script rest else if sim && false then and_then (no_fields rest) (λ u. Ok Schedule) else Err Word) some in
     let counted : begin_fields script rest ≡ and_then (mode_fields script.shape rest) (one_more_program script.shape.version (length last.programs)) =
     ap (λ n. and_then (mode_fields script.shape rest) (one_more_program script.shape.version n)) count in
     is ∙ sym (ap (listing_line sim script) (split ∙ ap (λ w. w ∷ rest) ((bytes_eq-Decides word (codes "begin")).0 named)) ∙ begins ∙ counted)

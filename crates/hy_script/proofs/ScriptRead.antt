@@ -1,33 +1,35 @@
 -- From what a script was read as, to the words of its lines.
-use Rattle.std.proofs.Common.{arith, ◌≡◌, ℕ, ◌<◌, Bool, true, false, List, [], ◌∷◌, ◌++◌, length, refl, sym, ap, subst, ◌∙◌, append_assoc, append-nil, if◌then◌else◌, nat_lt}
-use Rattle.std.specs.Prelude.{map, flat_map, is_some, Option, Some, None, Result, Ok, Err, IfOk, codes, decimal, ⊤}
+use Rattle.std.proofs.Common.{arith, ◌≡◌, ℕ, ◌==◌, ◌<◌, Bool, true, false, List, [], ◌∷◌, ◌++◌, length, refl, sym, ap, subst, ◌∙◌, append_assoc, append-nil, if◌then◌else◌, nat_lt}
+use Rattle.std.specs.Prelude.{All, map, flat_map, is_some, Option, Some, None, Result, Ok, Err, IfOk, codes, decimal, ⊤}
 use Rattle.std.specs.List.{AllByRecursion}
+use Rattle.std.proofs.lemmas.Bool.{ne_eqb}
 use Rattle.std.proofs.lemmas.List.{map_push}
+use Rattle.std.proofs.lemmas.List.Elements.{All-push}
 use Rattle.hy_base.specs.declared.layout.Shape.{Shape}
 use Rattle.hy_base.specs.declared.workload.Command.{Command}
-use Rattle.hy_base.specs.declared.workload.Command.TheVariants.{Get, Put, Del, Add, Scan}
+use Rattle.hy_base.specs.declared.workload.Command.TheVariants.{Get, Put, Del, Add, Scan, Row, Unrow, Cell, Find}
 use Rattle.hy_base.specs.declared.workload.Client.{Client}
 use Rattle.hy_base.specs.declared.workload.Program.{Program}
 use Rattle.hy_base.specs.declared.record.Isolation.{Isolation}
 use Rattle.hy_base.specs.declared.record.Isolation.TheVariants.{Serializable, Snapshot}
 use Rattle.hy_base.specs.Entry.{is_told}
-use Rattle.hy_base.specs.Script.{Workload, IsAsOf, IsProgram, IsScript, client_count, mode_of}
+use Rattle.hy_base.specs.Script.{Workload, ClientFitsTables, FitsTables, IsAsOf, IsProgram, IsScript, client_count, command_count, mode_of}
 use Rattle.hy_base.specs.Shape.{IsGoodShape, IsWithin}
 use Rattle.hy_base.specs.Spelling.{Text}
 use Rattle.hy_base.proofs.ListLemmas.{all_push}
-use Rattle.hy_script.specs.Grammar.{Place, AtStart, Shaped, Listing, Programming, Scheduled, change_last, gains_program, last_program_count, with_client, with_program}
+use Rattle.hy_script.specs.Grammar.{Place, AtStart, Shaped, Listing, Programming, Scheduled, change_last, gains_program, last_program_count, with_client, with_program, with_tables}
 use Rattle.hy_script.specs.ScriptLaws.{ClientFits, FitsFields, IsSaidBy, IsScriptSpellable, ProgramFits, SpellsWhatItReads, plain, words_by_line}
 use Rattle.hy_script.specs.Lines.{numbered_lines, words_of}
 use Rattle.hy_script.specs.Outcome.{Reads}
 use Rattle.hy_script.specs.LineParts.{after_listing, after_program_line, leading}
 use Rattle.hy_script.specs.ScriptReading.{script_ended, place_after, place_after_all, read_script, start_after}
 use Rattle.hy_script.specs.ScriptFields.{listing_line, program_line, servers_line, shape_line}
-use Rattle.hy_script.specs.ScriptSpelling.{asked_fields, begin_words, client_lines, command_words, program_lines, script_lines, spelled_shape}
+use Rattle.hy_script.specs.ScriptSpelling.{asked_fields, begin_words, client_lines, command_words, head_lines, program_lines, script_lines, servers_words, spelled_shape, tables_lines}
 use Rattle.hy_script.specs.declared.refused.ReadError.{ReadError}
 use Rattle.hy_script.specs.declared.refused.Reading.{Reading}
 use Rattle.hy_script.specs.declared.refused.Refused.{Refused}
 use Rattle.hy_script.specs.declared.script.ListingLine.{ListingLine}
-use Rattle.hy_script.specs.declared.script.ListingLine.TheVariants.{Client as ClientLine, Begin, Schedule}
+use Rattle.hy_script.specs.declared.script.ListingLine.TheVariants.{Tables, Client as ClientLine, Begin, Schedule}
 use Rattle.hy_script.specs.declared.script.ProgramLine.{ProgramLine}
 use Rattle.hy_script.specs.declared.script.ProgramLine.TheVariants.{Next, End}
 use Rattle.hy_script.specs.declared.why.Why.{Why}
@@ -62,6 +64,7 @@ record IsOpenProgram (script : Workload) (program : Program) : Type 0 where
   pub told : is_told script.shape.version program.isolation ≡ true
   pub asks : IsAsOf script.shape program.as_of
   pub fits : AllByRecursion FitsFields program.commands
+  pub fits_tables : All (FitsTables script.tables) program.commands
 
 abbrev IsReachedPlace : Place → Type 0
 IsReachedPlace AtStart = ⊤
@@ -102,11 +105,13 @@ module _ (sim : Bool) (p : ℕ × Text) (next : Place) where
   from_shaped shape good e =
       let step = leading_was (listing_of shape) (servers_line (words_of p.1)) next (servers_leads sim shape p.0 (words_of p.1) ∙ e) in
       let was = servers_was (words_of p.1) step.0 step.1 in
-      let lawful : IsScript (record { shape = shape; servers = step.0.servers; keeps = step.0.keeps; clients = [] }) =
+      let lawful : IsScript (record { shape = shape; servers = step.0.servers; keeps = step.0.keeps; tables = 0; clients = [] }) =
       record {
         shape = good;
         servers = was.servers;
         keeps = was.keeps;
+        tables = omega arith;
+        fits_tables = λ k d below. absurd (omega (arith, below));
         clients = λ k d below. absurd (omega (arith, below));
         client_count = λ k. omega arith;
         isolations = λ k d below. absurd (omega (arith, below));
@@ -118,13 +123,44 @@ module _ (sim : Bool) (p : ℕ × Text) (next : Place) where
 
 spellable_client : (script : Workload) (server : ℕ) → IsScriptSpellable script → IsWithin 1 script.servers server → client_count script.clients server < 16 → IsScriptSpellable (with_client server script)
 spellable_client script server s within room = record {
-  lawful = client_kept script.shape script.servers script.keeps server script.clients s.lawful within room;
+  lawful = client_kept script.shape script.servers script.keeps script.tables server script.clients s.lawful within room;
   clients = all_push ClientFits script.clients (record { server = server; programs = [] }) s.clients tt;
 }
 
 client_said : (script : Workload) (server : ℕ) (words : List Text) → words ≡ codes "client" ∷ decimal server ∷ [] → script_lines (with_client server script) ≡ script_lines script ++ words ∷ []
 client_said script server words are =
-    ap (λ l. script_lines (record { shape = script.shape; servers = script.servers; keeps = script.keeps; clients = [] }) ++ l) (flat_map_push client_lines script.clients (record { server = server; programs = [] }))
+    ap (λ l. head_lines script ++ l) (flat_map_push client_lines script.clients (record { server = server; programs = [] }))
+    ∙ sym (append_assoc (head_lines script) (flat_map client_lines script.clients) ((codes "client" ∷ decimal server ∷ []) ∷ []))
+    ∙ ap (λ w. script_lines script ++ w ∷ []) (sym are)
+
+spellable_tables : (script : Workload) (tables : ℕ) → IsScriptSpellable script → IsWithin 1 255 tables → script.clients ≡ [] → IsScriptSpellable (with_tables tables script)
+spellable_tables script tables s within none = record {
+  lawful = record {
+    shape = s.lawful.shape;
+    servers = s.lawful.servers;
+    keeps = s.lawful.keeps;
+    tables = within.at_most;
+    clients = s.lawful.clients;
+    fits_tables = subst (All (ClientFitsTables tables)) (sym none) (λ k d below. absurd (omega (arith, below)));
+    client_count = s.lawful.client_count;
+    isolations = s.lawful.isolations;
+    positions = s.lawful.positions;
+  };
+  clients = s.clients;
+}
+
+-- the number of tables ends a script without clients
+tables_said : (script : Workload) (tables : ℕ) (words : List Text) → words ≡ codes "tables" ∷ decimal tables ∷ [] → IsWithin 1 255 tables → script.tables ≡ 0 → script.clients ≡ []
+    → script_lines (with_tables tables script) ≡ script_lines script ++ words ∷ []
+tables_said script tables words are within first none =
+    let shape = spelled_shape script.shape in
+    let servers = servers_words script.servers script.keeps in
+    let told : List Text = codes "tables" ∷ decimal tables ∷ [] in
+    let some : (tables == 0) ≡ false = ne_eqb tables 0 (λ e. omega (arith, e, within.at_least)) in
+    ap (λ t. (shape ∷ servers ∷ (if t then [] else told ∷ [])) ++ flat_map client_lines script.clients) some
+    ∙ ap (λ cs. (shape ∷ servers ∷ told ∷ []) ++ flat_map client_lines cs) none
+    ∙ sym (ap (λ n. ((shape ∷ servers ∷ tables_lines n) ++ flat_map client_lines script.clients) ++ told ∷ []) first
+    ∙ ap (λ cs. ((shape ∷ servers ∷ []) ++ flat_map client_lines cs) ++ told ∷ []) none)
     ∙ ap (λ w. script_lines script ++ w ∷ []) (sym are)
 
 plain_begin : (isolation : Isolation) (as_of : Option ℕ) → plain (codes "begin" ∷ asked_fields isolation as_of) ≡ codes "begin" ∷ asked_fields isolation as_of
@@ -138,8 +174,13 @@ plain_command (Put key value) = refl
 plain_command (Del key) = refl
 plain_command (Add key n) = refl
 plain_command (Scan lo hi n) = refl
+plain_command (Row table row attribute text) = refl
+plain_command (Unrow table row) = refl
+plain_command (Cell table row) = refl
+plain_command (Find table attribute n) = refl
 
 listed : (script : Workload) (p : ℕ × Text) (read : ListingLine) → IsScriptSpellable script → IsListingLine script (words_of p.1) read → LineFollows (script_lines script) p (after_listing script p.0 read)
+listed script p (Tables tables) s was = (spellable_tables script tables s was.1 was.3, tables_said script tables (plain (words_of p.1)) (ap plain was.0) was.1 was.2 was.3)
 listed script p (ClientLine server) s was = (spellable_client script server s was.1 was.2, client_said script server (plain (words_of p.1)) (ap plain was.0))
 listed script p (Begin mode) s was = (
   record {
@@ -150,6 +191,7 @@ listed script p (Begin mode) s was = (
     asks = was.4.0;
     lawful = record { count = omega arith; commands = λ k d below. absurd (omega (arith, below)); reads = λ asks k d below. absurd (omega (arith, below)); plain = was.4.1 };
     fits = tt;
+    fits_tables = λ k d below. absurd (omega (arith, below));
   },
   ap (λ w. script_lines script ++ w ∷ []) (sym (ap plain was.0 ∙ plain_begin mode.isolation mode.as_of)),
 )
@@ -189,7 +231,7 @@ program_lawful script program lawful s =
     let last = last_of script.clients s.some in
     let room : length last.1.programs < 10000 = omega (arith, s.room, ap last_program_count last.2, last_program_count_is last.0 last.1) in
     subst (λ cs. IsScript (script_with script cs)) (sym (ap (change_last (gains_program program)) last.2 ∙ change_last_is (gains_program program) last.0 last.1))
-    (program_kept script.shape script.servers script.keeps last.0 last.1 program (subst (λ cs. IsScript (script_with script cs)) last.2 lawful) room s.lawful s.told s.asks)
+    (program_kept script.shape script.servers script.keeps script.tables last.0 last.1 program (subst (λ cs. IsScript (script_with script cs)) last.2 lawful) room s.lawful s.told s.asks s.fits_tables)
 
 spellable_program : (script : Workload) (program : Program) → IsOpenProgram script program → IsScriptSpellable (with_program program script)
 spellable_program script program s = record {
@@ -200,7 +242,8 @@ spellable_program script program s = record {
 program_said : (script : Workload) (program : Program) (words : List Text) → 0 < length script.clients → words ≡ codes "end" ∷ []
     → script_lines (with_program program script) ≡ (script_lines script ++ begin_words (mode_of program) ∷ map command_words program.commands) ++ words ∷ []
 program_said script program words some are =
-    ap (λ l. script_lines (script_with script []) ++ l) (changed_lines program script.clients some)
+    ap (λ l. head_lines script ++ l) (changed_lines program script.clients some)
+    ∙ sym (append_assoc (head_lines script) (flat_map client_lines script.clients) (program_lines program))
     ∙ sym (append_assoc (script_lines script) (begin_words (mode_of program) ∷ map command_words program.commands) ((codes "end" ∷ []) ∷ []))
     ∙ ap (λ w. (script_lines script ++ begin_words (mode_of program) ∷ map command_words program.commands) ++ w ∷ []) (sym are)
 
@@ -211,7 +254,7 @@ command_said script program command words are =
     ∙ sym (append_assoc (script_lines script) (begin_words (mode_of program) ∷ map command_words program.commands) (command_words command ∷ []))
     ∙ ap (λ w. (script_lines script ++ begin_words (mode_of program) ∷ map command_words program.commands) ++ w ∷ []) (sym are)
 
-programmed : (script : Workload) (program : Program) (p : ℕ × Text) (read : ProgramLine) → IsOpenProgram script program → IsProgramLine (is_some program.as_of) (length program.commands) (words_of p.1) read
+programmed : (script : Workload) (program : Program) (p : ℕ × Text) (read : ProgramLine) → IsOpenProgram script program → IsProgramLine script.tables (is_some program.as_of) (command_count program.commands) (words_of p.1) read
     → LineFollows (said (Programming script program)) p (after_program_line script program read)
 programmed script program p (Next command) s was = (
   record {
@@ -220,6 +263,7 @@ programmed script program p (Next command) s was = (
     room = s.room;
     lawful = next_kept program (program.commands ++ command ∷ []) command s.lawful was.lawful was.may was.room refl;
     fits = all_push FitsFields program.commands command s.fits was.fits;
+    fits_tables = All-push (FitsTables script.tables) program.commands command s.fits_tables was.fits_tables;
     told = s.told;
     asks = s.asks;
   },
@@ -230,8 +274,8 @@ programmed script program p End s was = (spellable_program script program s, pro
 from_programming : (sim : Bool) (p : ℕ × Text) (next : Place) (script : Workload) (program : Program) → IsOpenProgram script program → place_after sim (Programming script program) p ≡ Ok next
     → LineFollows (said (Programming script program)) p next
 from_programming sim p next script program s e =
-    let step = leading_was (after_program_line script program) (program_line (is_some program.as_of) (length program.commands) (words_of p.1)) next (program_leads sim p.0 script program (words_of p.1) ∙ e) in
-    subst (LineFollows (said (Programming script program)) p) step.2 (programmed script program p step.0 s (program_was (is_some program.as_of) (length program.commands) (words_of p.1) step.0 step.1))
+    let step = leading_was (after_program_line script program) (program_line script.tables (is_some program.as_of) (command_count program.commands) (words_of p.1)) next (program_leads sim p.0 script program (words_of p.1) ∙ e) in
+    subst (LineFollows (said (Programming script program)) p) step.2 (programmed script program p step.0 s (program_was script.tables (is_some program.as_of) (command_count program.commands) (words_of p.1) step.0 step.1))
 
 -- all lines
 

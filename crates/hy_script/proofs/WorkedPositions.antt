@@ -1,7 +1,8 @@
 -- Lines of servers that keep boards, and of programs that ask for a position, read.
-use Rattle.std.proofs.Common.{◌≡◌, ℕ, true, false, List, [], ◌∷◌, length, nat_lt, refl}
+use Rattle.std.proofs.Common.{arith, ltb-true, ◌≡◌, ◌==◌, ℕ, true, false, List, [], ◌∷◌, length, nat_lt, refl}
 use Rattle.std.specs.Fmt.{digits}
 use Rattle.std.specs.Prelude.{None, Ok, Err, codes}
+use Rattle.std.proofs.lemmas.Bool.{ne_eqb}
 use Rattle.hy_base.specs.declared.layout.Shape.{Shape}
 use Rattle.hy_base.specs.declared.workload.Client.{Client}
 use Rattle.hy_base.specs.declared.workload.Command.TheVariants.{Get, Scan}
@@ -15,7 +16,7 @@ abbrev pairs : Shape
 pairs = record { group = 2; window = 1; cap = 8; version = 1; horizon = None }
 
 abbrev keeping : ℕ → ℕ → List Client → Workload
-keeping servers keeps clients = record { shape = pairs; servers = servers; keeps = keeps; clients = clients }
+keeping servers keeps clients = record { shape = pairs; servers = servers; keeps = keeps; tables = 0; clients = clients }
 
 one_board : place_after false (Shaped pairs) (2, codes "servers 3") ≡ Ok (Listing (keeping 3 1 []))
 unfolding digits
@@ -122,14 +123,17 @@ snapshot_of_a_position : place_after false (Listing listed) (4, codes "begin sna
 unfolding digits
 snapshot_of_a_position = refl
 
+some_told : (clients : List Client) → nat_lt 0 (length clients) ≡ true → (length clients == 0) ≡ false
+some_told clients some = ne_eqb (length clients) 0 (λ e. omega (arith, e, ltb-true 0 (length clients) some))
+
 -- the range comes before the count
 full : (clients : List Client) → nat_lt 0 (length clients) ≡ true → nat_lt (last_program_count clients) 10000 ≡ false → place_after false (Listing (keeping 1 2 clients)) (4, codes "begin at 4") ≡ Err Count
 unfolding digits
-full clients some none = rw (some, none) refl
+full clients some none = rw (some_told clients some, some, none) refl
 
 within_a_group_first : (clients : List Client) → nat_lt 0 (length clients) ≡ true → place_after false (Listing (keeping 1 2 clients)) (4, codes "begin at 3") ≡ Err Range
 unfolding digits
-within_a_group_first clients some = rw some refl
+within_a_group_first clients some = rw (some_told clients some, some) refl
 
 -- a program that asks for a position only reads
 

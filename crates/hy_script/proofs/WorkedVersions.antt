@@ -1,7 +1,9 @@
 -- Lines of each version, read.
-use Rattle.std.proofs.Common.{◌≡◌, ℕ, true, false, [], ◌∷◌, length, nat_lt, refl}
+use Rattle.std.proofs.Common.{arith, ltb-true, ◌≡◌, ◌==◌, ◌&&◌, ℕ, Bool, true, false, List, [], ◌∷◌, length, nat_lt, refl}
 use Rattle.std.specs.Fmt.{digits}
 use Rattle.std.specs.Prelude.{Option, Some, None, Ok, Err, codes}
+use Rattle.std.proofs.lemmas.Bool.{ne_eqb}
+use Rattle.hy_base.specs.declared.workload.Client.{Client}
 use Rattle.hy_base.specs.declared.record.Isolation.TheVariants.{Serializable, Snapshot}
 use Rattle.hy_base.specs.Script.{Workload}
 use Rattle.hy_script.specs.Grammar.{AtStart, Shaped, Listing, Programming, plain_mode, begun, last_program_count}
@@ -13,6 +15,7 @@ with_horizon version horizon = record {
   shape = record { group = 1; window = 1; cap = 8; version = version; horizon = horizon };
   servers = 1;
   keeps = 1;
+  tables = 0;
   clients = record { server = 1; programs = [] } ∷ [];
 }
 
@@ -121,12 +124,16 @@ other_word = refl
 more_words : place_after false (Listing (of_version 1)) (4, codes "begin snapshot 1") ≡ Err Form
 more_words = refl
 
-no_client : place_after false (Listing (record { shape = (of_version 2).shape; servers = 1; keeps = 1; clients = [] })) (3, codes "begin snapshot") ≡ Err Word
+no_client : place_after false (Listing (record { shape = (of_version 2).shape; servers = 1; keeps = 1; tables = 0; clients = [] })) (3, codes "begin snapshot") ≡ Err Word
 no_client = refl
 
 blank_word : place_after false (Listing (of_version 2)) (4, codes "begin ") ≡ Err Form
 blank_word = refl
 
+some_told : (t : Bool) (clients : List Client) → nat_lt 0 (length clients) ≡ true → t && (length clients == 0) ≡ false
+some_told true clients some = ne_eqb (length clients) 0 (λ e. omega (arith, e, ltb-true 0 (length clients) some))
+some_told false clients some = refl
+
 -- a client with all its programs has room for none, whatever the version
 full_first : (script : Workload) → nat_lt 0 (length script.clients) ≡ true → nat_lt (last_program_count script.clients) 10000 ≡ false → place_after false (Listing script) (4, codes "begin snapshot") ≡ Err Count
-full_first script some full = rw (some, full) refl
+full_first script some full = rw (some_told (script.tables == 0) script.clients some, some, full) refl

@@ -163,6 +163,21 @@ is_row_text text = is_value text && nat_le (length text) text_limit
 abbrev pub is_search : ℕ → ℕ → ℕ → ℕ → Bool
 is_search tables table attribute n = is_within 1 tables table && (nat_lt attribute attribute_limit && is_within 1 1000 n)
 
+-- get K, scan LO HI N
+abbrev pub reading_forms : Workload → Program → List (LineForm Place)
+reading_forms script program =
+    OneNumber "get" (λ key. gains script program (Get key) [])
+    ∷ ThreeNumbers "scan" (λ lo hi n. gains script program (Scan lo hi n) ((is_within 1 1000 n, Range) ∷ (nat_le lo hi, Order) ∷ []))
+    ∷ []
+
+-- put K V, del K, add K N, where K is no key of a table
+abbrev pub writing_forms : Workload → Program → List (LineForm Place)
+writing_forms script program =
+    NumberAndText "put" (λ key value. gains script program (Put key value) ((is_value value, Value) ∷ (not (is_table_key script.tables key), Range) ∷ []))
+    ∷ OneNumber "del" (λ key. gains script program (Del key) ((not (is_table_key script.tables key), Range) ∷ []))
+    ∷ TwoNumbers "add" (λ key n. gains script program (Add key n) ((not (is_table_key script.tables key), Range) ∷ []))
+    ∷ []
+
 -- where there are tables: cell T R, find T A N
 abbrev pub table_reading_forms : Workload → Program → List (LineForm Place)
 table_reading_forms script program =
@@ -178,20 +193,12 @@ table_writing_forms script program =
     ∷ TwoNumbers "unrow" (λ table row. gains script program (Unrow table row) ((is_row script.tables table row, Range) ∷ []))
     ∷ []
 
--- get K, scan LO HI N
-abbrev pub reading_forms : Workload → Program → List (LineForm Place)
-reading_forms script program =
-    OneNumber "get" (λ key. gains script program (Get key) [])
-    ∷ ThreeNumbers "scan" (λ lo hi n. gains script program (Scan lo hi n) ((is_within 1 1000 n, Range) ∷ (nat_le lo hi, Order) ∷ []))
-    ∷ (if nat_lt 0 script.tables then table_reading_forms script program else [])
-
--- put K V, del K, add K N, where K is no key of a table
-abbrev pub writing_forms : Workload → Program → List (LineForm Place)
-writing_forms script program =
-    NumberAndText "put" (λ key value. gains script program (Put key value) ((is_value value, Value) ∷ (not (is_table_key script.tables key), Range) ∷ []))
-    ∷ OneNumber "del" (λ key. gains script program (Del key) ((not (is_table_key script.tables key), Range) ∷ []))
-    ∷ TwoNumbers "add" (λ key n. gains script program (Add key n) ((not (is_table_key script.tables key), Range) ∷ []))
-    ∷ (if nat_lt 0 script.tables then table_writing_forms script program else [])
+-- the commands that may stand where there are tables or aren't, and where a program only reads or may also write
+abbrev pub command_forms : Bool → Bool → Workload → Program → List (LineForm Place)
+command_forms has_tables reads script program =
+    reading_forms script program
+    ++ (if has_tables then table_reading_forms script program else [])
+    ++ (if reads then [] else writing_forms script program ++ (if has_tables then table_writing_forms script program else []))
 
 -- The lines that may stand at a place, this being the line with the number that is given. Where there is a simulation a schedule may follow the clients.
 -- A program that asks for a position only reads.
@@ -203,8 +210,7 @@ forms_at sim (Listing script) number =
     ∷ (if may_tell_tables script then tables_form script ∷ [] else [])
     ++ (if nat_lt 0 (length script.clients) then begin_forms script else [])
     ++ (if sim then schedule_form number script ∷ [] else [])
-forms_at sim (Programming script program) number =
-    reading_forms script program ++ (if is_some program.as_of then [] else writing_forms script program) ++ end_form script program ∷ []
+forms_at sim (Programming script program) number = command_forms (nat_lt 0 script.tables) (is_some program.as_of) script program ++ end_form script program ∷ []
 forms_at sim (Scheduled script start) number = []
 
 abbrev pub event_of_client : Workload → Event → ℕ → Meaning Event

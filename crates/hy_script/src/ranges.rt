@@ -10,18 +10,19 @@ use hy_base::{Command, Key};
 /// How many commands the commands of a program may count as.
 pub const MOST_COMMANDS: usize = 64;
 
-/// How long the text of a row may be.
+/// How many bytes the text of a row may have.
 pub const TEXT_LIMIT: usize = 200;
 
+// How many rows a table may have.
 const ROW_LIMIT: u64 = 1 << 24;
 
+// How many attributes there are.
 const ATTRIBUTE_LIMIT: u64 = 1 << 31;
 
 // How many keys a table has.
 const TABLE_KEYS: Key = 1 << 56;
 
 /// Whether a key belongs to one of so many tables.
-#[tactic(auto, using(crate::proofs::TableLines::key_of_table))]
 pub fn is_table_key(tables: u8, key: Key) -> bool
     ensures { result ≡ is_table_key tables key }
 {
@@ -50,11 +51,7 @@ pub fn is_search(tables: u8, table: u64, attribute: u64, n: u64) -> bool
     ensures exact { result ≡ is_search tables table attribute n }
     ensures within { result ≡ true → IsWithin 1 tables table × (attribute < attribute_limit) × IsWithin 1 1000 n }
 {
-    1 <= table
-        && table <= tables as u64
-        && attribute < ATTRIBUTE_LIMIT
-        && 1 <= n
-        && n <= 1000
+    1 <= table && table <= tables as u64 && attribute < ATTRIBUTE_LIMIT && 1 <= n && n <= 1000
 }
 
 /// How many commands a command counts as.

@@ -1,5 +1,5 @@
 //! The lines of a script.
-ghost use Rattle.std.specs.Prelude.{◌≡◌, ◌<◌, ◌≤◌, ℕ, not, Bool, true, false, List, Ok, length, IfOk, IfSome};
+ghost use Rattle.std.specs.Prelude.{◌≡◌, ◌<◌, ◌≤◌, ℕ, not, nat_lt, Bool, true, false, List, Ok, length, IfOk, IfSome};
 ghost use Rattle.hy_base.specs.declared.workload.Mode.{Mode};
 ghost use Rattle.hy_base.specs.Entry.{is_told};
 ghost use Rattle.hy_base.specs.Script.{FitsTables, IsCommand, IsReading, client_count};
@@ -23,7 +23,9 @@ use crate::words::{
     Fields, cut_fields, four_numbers, no_fields, number_and_text, one_number, three_numbers,
     three_numbers_and_text, two_numbers,
 };
-use hy_base::{Client, Command, Isolation, Key, Mode, Pos, Shape, Value, ValueError, tells_isolation};
+use hy_base::{
+    Client, Command, Isolation, Key, Mode, Pos, Shape, Value, ValueError, tells_isolation,
+};
 use std::alloc::{AllocError, Global};
 
 /// Why a line was not read.
@@ -366,6 +368,7 @@ fn schedule_of(fields: Fields<'_>) -> Result<ListingLine, Why>
 fn scan_of(fields: Fields<'_>) -> Result<Command, Why>
     ensures exact { (words : List (List ℕ)) → HasFields fields.entry words → result ≡ scan_fields words }
     ensures lawful { IfOk result (λ command. IsCommand command × IsReading command) }
+    ensures fits { (tables : ℕ) → IfOk result (FitsTables tables) }
 {
     let (lo, hi, n) = three_numbers(fields)?;
     if n < 1 || n > 1000 {
@@ -612,7 +615,7 @@ fn read_writing_line(
     fields: Fields<'_>,
 ) -> Result<ProgramLine, LineError>
     requires { count ≤ 64 }
-    ensures exact { (words : List (List ℕ)) → HasFields fields.entry words → TellsField result (writing_line tables count word.now words) }
+    ensures exact { (words : List (List ℕ)) → HasFields fields.entry words → TellsField result (writing_line (nat_lt 0 tables) tables count word.now words) }
     ensures fits { IfOk result (IsNextLine tables false count) }
 {
     if word == b"put".as_slice() {

@@ -9,7 +9,7 @@ use Rattle.hy_gen.proofs.load.generate.Goals as goal
 
 pub new-script-requires : goal.new-script-requires
 new-script-requires c =
-    subst (λ (cs : List Client). IsScript (record { shape = shape_for c.args.size; servers = 4; keeps = 1; clients = cs })) (sym c.in_ok-clients.ensures) (script_good c.args.seed c.args.size c.requires.at_least c.requires.at_most)
+    subst (λ (cs : List Client). IsScript (record { shape = shape_for c.args.size; servers = 4; keeps = 1; tables = 0; clients = cs })) (sym c.in_ok-clients.ensures) (script_good c.args.seed c.args.size c.requires.at_least c.requires.at_most)
 
 pub schedule-requires : goal.schedule-requires
 schedule-requires c =
