@@ -20,6 +20,19 @@ fn told(command: &Command) -> (&'static str, u64, u64, u64) {
         Command::Del(key) => ("del", *key, 0, 0),
         Command::Add(key, n) => ("add", *key, *n, 0),
         Command::Scan { lo, hi, n } => ("scan", *lo, *hi, *n as u64),
+        Command::Row {
+            table,
+            row,
+            attribute,
+            text: _,
+        } => ("row", *table as u64, *row as u64, *attribute as u64),
+        Command::Unrow { table, row } => ("unrow", *table as u64, *row as u64, 0),
+        Command::Cell { table, row } => ("cell", *table as u64, *row as u64, 0),
+        Command::Find {
+            table,
+            attribute,
+            n,
+        } => ("find", *table as u64, *attribute as u64, *n as u64),
     }
 }
 
