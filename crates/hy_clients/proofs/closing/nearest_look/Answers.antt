@@ -1,0 +1,2 @@
+use Rattle.std.proofs.Common.{◌≡◌, ◌∙◌, sym, ap, subst, arith}
+use Rattle.hy_clients.proofs.closing.nearest_look.Goals as goal
