@@ -148,7 +148,6 @@ impl Core {
     /// `Memory`: out of memory, and some of the first events have happened. The core may be broken, as by [`step`](Core::step).
     /// Whatever comes of it, the tables of a script that has some are sound then, and were after each whole group, and each
     /// find gave just the first rows with its attribute (`tables`).
-    #[tactic(auto, using(crate::proofs::Tabled::sound_tables))]
     pub fn run<R: Threads + Sync, G: Gate + Sync>(
         &mut self,
         rt: &R,
@@ -163,6 +162,7 @@ impl Core {
         ensures memory { IsErrOf result RunError.Memory → FollowsSome self.old events.now self.new }
         ensures tables { HasSoundTables self.new }
     {
+        let _ = self.script();
         for at in 0..events.len() {
             match self.step(rt, alloc, events[at], threads, gate) {
                 Ok(()) => {}
