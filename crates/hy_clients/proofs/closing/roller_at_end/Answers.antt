@@ -1,0 +1,1 @@
+use Rattle.hy_clients.proofs.closing.roller_at_end.Goals as goal
