@@ -1,5 +1,5 @@
 -- Rows in order, cut where their keys come to have the highest bit in which they differ.
-use Rattle.std.proofs.Common.{◌≡◌, ℕ, zero, suc, ◌+◌, ◌-◌, ◌*◌, ◌/◌, ◌^◌, ◌<◌, ◌≤◌, true, false, leb, List, [], ◌∷◌, ◌++◌, length, get_or, take, drop, sym, ap, refl, arith, inl, inr}
+use Rattle.std.proofs.Common.{◌≡◌, ℕ, zero, suc, ◌+◌, ◌-◌, ◌*◌, ◌/◌, ◌^◌, ◌<◌, ◌≤◌, true, false, leb, List, [], ◌∷◌, ◌++◌, length, get_or, take, drop, ap, ◌∙◌, refl, arith, inl, inr, length-append}
 use Rattle.std.specs.Int.Bits.{bit_xor}
 use Rattle.std.specs.List.{AllWithin}
 use Rattle.std.specs.List.Sorted.{IsNonDecreasingBy, IsPartitionPoint}
@@ -7,7 +7,7 @@ use Rattle.std.proofs.lemmas.Bool.{cases_lt, leb-true, leb-false}
 use Rattle.std.proofs.lemmas.Nat.{pow_pos}
 use Rattle.hy_base.specs.declared.record.Row.{Row}
 use Rattle.hy_base.specs.Rows.{Each, IsOrdered}
-use Rattle.hy_tree.specs.TreeRows.{IsFork, CanFork}
+use Rattle.hy_tree.specs.TreeRows.{CanFork}
 use Rattle.hy_tree.proofs.Bits.{parted, within_power, same_power}
 use Rattle.hy_tree.proofs.Blocks.{ordered_left, ordered_right}
 use Rattle.hy_tree.proofs.Putting.{div_le, keys_part}
@@ -127,3 +127,21 @@ module _ {bit : ℕ} {xs : List Row} {x y : Row} {i : ℕ} (s : AreEnds bit xs x
 pub ends_differ : (xs : List Row) (x y : Row) → IsOrdered xs → 1 < length xs → x ≡ get_or xs 0 x → y ≡ get_or xs (length xs - 1) y → x.key < y.key
 ends_differ xs x y o several first last =
     omega (arith, ap (λ (r : Row). r.key) first, ap (λ (r : Row). r.key) last, key_less xs 0 (length xs - 1) x y o (omega arith) (omega arith))
+
+-- ---- each side by itself
+
+module _ (rows ls rs : List Row) (whole : rows ≡ ls ++ rs) (fork : CanFork ls rs) where
+  lengths : length rows ≡ length ls + length rs
+  lengths = ap length whole ∙ length-append ls rs
+
+  pub left_shorter : length ls < length rows
+  left_shorter = omega (arith, lengths, fork.2.right_some)
+
+  pub right_shorter : length rs < length rows
+  right_shorter = omega (arith, lengths, fork.2.left_some)
+
+  pub left_ordered : IsOrdered rows → IsOrdered ls
+  left_ordered o = ordered_left ls rs (rw whole at o)
+
+  pub right_ordered : IsOrdered rows → IsOrdered rs
+  right_ordered o = ordered_right ls rs (rw whole at o)

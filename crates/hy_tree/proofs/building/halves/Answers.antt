@@ -1,4 +1,4 @@
-use Rattle.std.proofs.Common.{◌≡◌, ◌/◌, ◌-◌, ◌<◌, ◌^◌, List, length, get_or, leb, sym, ap, subst, arith, rules}
+use Rattle.std.proofs.Common.{◌≡◌, ◌/◌, ◌-◌, ◌<◌, ◌^◌, List, length, get_or, leb, sym, ap, arith, rules}
 use Rattle.std.proofs.lemmas.List.Sorted.{IsPartitionPoint-from_clause, IsPartitionedBy-leb}
 use Rattle.hy_base.specs.declared.record.Row.{Row}
 use Rattle.hy_tree.proofs.Halves.{AreEnds, xor_some, cut_at, rising, is_fork, ends_differ}
