@@ -35,7 +35,7 @@ cut_at k n bit lt fits low high =
 
 -- ---- rows by their places
 
-each_at : (P : Row → Type 0) (xs : List Row) (i : ℕ) (d : Row) → Each P xs → i < length xs → P (get_or xs i d)
+pub each_at : (P : Row → Type 0) (xs : List Row) (i : ℕ) (d : Row) → Each P xs → i < length xs → P (get_or xs i d)
 each_at P [] i d a lt = absurd (omega arith)
 each_at P (x ∷ xs) zero d a lt = a.0
 each_at P (x ∷ xs) (suc i) d a lt = each_at P xs i d a.1 (omega arith)
@@ -51,19 +51,19 @@ get_same [] i d e lt = absurd (omega arith)
 get_same (x ∷ xs) zero d e lt = refl
 get_same (x ∷ xs) (suc i) d e lt = get_same xs i d e (omega arith)
 
-key_rise : (xs : List Row) (i j : ℕ) (d e : Row) → IsOrdered xs → i ≤ j → j < length xs → (get_or xs i d).key ≤ (get_or xs j e).key
+pub key_rise : (xs : List Row) (i j : ℕ) (d e : Row) → IsOrdered xs → i ≤ j → j < length xs → (get_or xs i d).key ≤ (get_or xs j e).key
 key_rise xs i j d e o le within =
     elim (cases_lt i j) [
       | inl h ↦ omega (arith, key_less xs i j d e o h within)
       | inr h ↦ let at : i ≡ j = omega arith in omega (arith, ap (λ (n : ℕ). (get_or xs n d).key) at, ap (λ (r : Row). r.key) (get_same xs j d e within))
     ]
 
-each_take : (P : Row → Type 0) (xs : List Row) (i : ℕ) → AllWithin P xs 0 i → i ≤ length xs → Each P (take i xs)
+pub each_take : (P : Row → Type 0) (xs : List Row) (i : ℕ) → AllWithin P xs 0 i → i ≤ length xs → Each P (take i xs)
 each_take P xs zero h le = tt
 each_take P [] (suc i) h le = absurd (omega arith)
 each_take P (x ∷ xs) (suc i) h le = (h 0 x (omega arith) (omega arith), each_take P xs i (λ k d low lt. h (suc k) d (omega arith) (omega arith)) (omega arith))
 
-each_drop : (P : Row → Type 0) (xs : List Row) (i : ℕ) → AllWithin P xs i (length xs) → Each P (drop i xs)
+pub each_drop : (P : Row → Type 0) (xs : List Row) (i : ℕ) → AllWithin P xs i (length xs) → Each P (drop i xs)
 each_drop P [] zero h = tt
 each_drop P (x ∷ xs) zero h = (h 0 x (omega arith) (omega arith), each_drop P xs zero (λ k d low lt. h (suc k) d (omega arith) (omega arith)))
 each_drop P [] (suc i) h = tt
