@@ -68,13 +68,13 @@ no_key key = by (nat_le (2 ^ 56) key) (nat_lt key ((0 + 1) * 2 ^ 56)) refl refl
     by true true e f = let low : 2 ^ 56 ≤ key = leb-true (2 ^ 56) key e in let high : key < (0 + 1) * 2 ^ 56 = ltb-true key ((0 + 1) * 2 ^ 56) f in absurd (omega (arith, low, high))
 
 never_found : (q : Pair → Bool) → ((p : Pair) → q p ≡ false) → (pairs : List Pair) → find q pairs ≡ None
-never_found q no [] = refl
-never_found q no (p ∷ ps) = rw (no p) (never_found q no ps)
+never_found q out [] = refl
+never_found q out (p ∷ ps) = rw (out p) (never_found q out ps)
 
 pub no_fault : (pairs : List Pair) → table_fault 0 pairs ≡ None
 no_fault pairs =
-    let no : (p : Pair) → (is_table_key 0 p.key && not (is_right pairs p)) ≡ false = λ p. ap (λ (b : Bool). b && not (is_right pairs p)) (no_key p.key) in
-    ap (option_map (λ (p : Pair). p.key)) (never_found (λ p. is_table_key 0 p.key && not (is_right pairs p)) no pairs)
+    let out : (p : Pair) → (is_table_key 0 p.key && not (is_right pairs p)) ≡ false = λ p. ap (λ (b : Bool). b && not (is_right pairs p)) (no_key p.key) in
+    ap (option_map (λ (p : Pair). p.key)) (never_found (λ p. is_table_key 0 p.key && not (is_right pairs p)) out pairs)
 
 -- so there is none to be seen without tables
 pub none_seen : (r : Roll) (from : ℕ) (entries : List EntryKind) → fault_seen 0 r from entries ≡ None
@@ -83,6 +83,9 @@ none_seen r from entries = by (drop (rolled_upto r - from) entries)
     by : (w : List EntryKind) → looked r w 0 ≡ None
     by [] = no_fault (pairs_of r.rolled.tree)
     by (x ∷ xs) = (λ i. option_or (no_fault (pairs_of r.rolled.tree) i) (no_fault (pairs_of (soon r (x ∷ xs)).rolled.tree) i))
+
+pub none_is_seen : (tables : ℕ) (r : Roll) (from : ℕ) (entries : List EntryKind) → tables ≡ 0 → None ≡ fault_seen tables r from entries
+none_is_seen tables r from entries none = sym (ap (λ n. fault_seen n r from entries) none ∙ none_seen r from entries)
 
 -- where a fault is seen there are some
 some_tables : (tables : ℕ) (r : Roll) (from : ℕ) (entries : List EntryKind) (key : ℕ) → Some key ≡ fault_seen tables r from entries → 1 ≤ tables
