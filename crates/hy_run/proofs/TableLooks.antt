@@ -1,5 +1,5 @@
 -- What the looks at a script's tables tell.
-use Rattle.std.proofs.Common.{arith, ◌≡◌, ℕ, ◌+◌, ◌*◌, ◌-◌, ◌%◌, ◌<◌, ◌≤◌, Bool, true, false, IsTrue, zero, suc, List, [], ◌∷◌, length, drop, refl, sym, ◌∙◌, ap, inl, inr, length-drop}
+use Rattle.std.proofs.Common.{arith, ◌≡◌, ℕ, ◌+◌, ◌*◌, ◌-◌, ◌%◌, ◌<◌, ◌≤◌, Bool, true, false, IsTrue, zero, suc, List, [], ◌∷◌, length, drop, refl, sym, ◌∙◌, ap, subst, inl, inr, length-drop}
 use Rattle.std.specs.Prelude.{◌⊎◌, ◌^◌, Option, Some, None, Result, Ok, Err, nat_lt, nat_le, ◌&&◌, not, find, option_map, if◌then◌else◌}
 use Rattle.std.proofs.lemmas.Bool.{leb-true, ltb-false, ltb-true}
 use Rattle.std.proofs.Math.Nat.{mod-eq_of_lt, mod-lt}
@@ -54,9 +54,16 @@ near_or_far : (n g : ℕ) (b : Bool) → nat_lt n g ≡ b → (n < g) ⊎ (g ≤
 near_or_far n g true is = inl (ltb-true n g is)
 near_or_far n g false is = inr (ltb-false n g is)
 
-pub room_waits : (s : Shape) (at from : ℕ) (entries : List EntryKind) → IsGoodShape s → at ≡ whole_groups s (from + length entries) → from + length entries ≤ s.cap → 0 < length (drop (at - from) entries) → at + s.group ≤ s.cap
+room_waits : (s : Shape) (at from : ℕ) (entries : List EntryKind) → IsGoodShape s → at ≡ whole_groups s (from + length entries) → from + length entries ≤ s.cap → 0 < length (drop (at - from) entries) → at + s.group ≤ s.cap
 room_waits s at from entries good is within some =
     next_whole s.group at s.cap (ap (λ n. n % s.group) is ∙ whole_is_whole s (from + length entries)) good.whole_groups (omega (arith, within, some, length-drop (at - from) entries)) (near_or_far (s.cap - at) s.group (nat_lt (s.cap - at) s.group) refl)
+
+-- that is what a roller asks of those that wait
+pub room_of : (s : Shape) (r : Roll) (from at : ℕ) (entries all waits : List EntryKind) → IsGoodShape s → r.shape ≡ s → rolled_upto r ≡ whole_groups s (from + length entries) → from + length entries ≤ s.cap → at ≡ rolled_upto r → all ≡ entries → waits ≡ drop (at - from) all
+    → 0 < length waits → rolled_upto r + r.shape.group ≤ r.shape.cap
+room_of s r from at entries all waits good shape is within here same are some =
+    let wait : waits ≡ drop (rolled_upto r - from) entries = are ∙ (λ i. drop (here i - from) (same i)) in
+    subst (λ (x : Shape). rolled_upto r + x.group ≤ x.cap) (sym shape) (room_waits s (rolled_upto r) from entries good is within (subst (λ (l : List EntryKind). 0 < length l) wait some))
 
 -- no key is one of no tables
 no_key : (key : ℕ) → is_table_key 0 key ≡ false
