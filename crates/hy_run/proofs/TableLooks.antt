@@ -1,5 +1,5 @@
 -- What the looks at a script's tables tell.
-use Rattle.std.proofs.Common.{arith, ◌≡◌, ℕ, ◌+◌, ◌*◌, ◌-◌, ◌%◌, ◌<◌, ◌≤◌, Bool, true, false, IsTrue, zero, suc, List, [], ◌∷◌, length, drop, refl, sym, ◌∙◌, ap, inl, inr, length-drop}
+use Rattle.std.proofs.Common.{arith, ◌≡◌, ℕ, ◌+◌, ◌*◌, ◌-◌, ◌%◌, ◌<◌, ◌≤◌, Bool, true, false, IsTrue, zero, suc, List, [], ◌∷◌, length, drop, refl, sym, ◌∙◌, ap, subst, inl, inr, length-drop}
 use Rattle.std.specs.Prelude.{◌⊎◌, ◌^◌, Option, Some, None, Result, Ok, Err, nat_lt, nat_le, ◌&&◌, not, find, option_map, if◌then◌else◌}
 use Rattle.std.proofs.lemmas.Bool.{leb-true, ltb-false, ltb-true}
 use Rattle.std.proofs.Math.Nat.{mod-eq_of_lt, mod-lt}
@@ -54,9 +54,16 @@ near_or_far : (n g : ℕ) (b : Bool) → nat_lt n g ≡ b → (n < g) ⊎ (g ≤
 near_or_far n g true is = inl (ltb-true n g is)
 near_or_far n g false is = inr (ltb-false n g is)
 
-pub room_waits : (s : Shape) (at from : ℕ) (entries : List EntryKind) → IsGoodShape s → at ≡ whole_groups s (from + length entries) → from + length entries ≤ s.cap → 0 < length (drop (at - from) entries) → at + s.group ≤ s.cap
+room_waits : (s : Shape) (at from : ℕ) (entries : List EntryKind) → IsGoodShape s → at ≡ whole_groups s (from + length entries) → from + length entries ≤ s.cap → 0 < length (drop (at - from) entries) → at + s.group ≤ s.cap
 room_waits s at from entries good is within some =
     next_whole s.group at s.cap (ap (λ n. n % s.group) is ∙ whole_is_whole s (from + length entries)) good.whole_groups (omega (arith, within, some, length-drop (at - from) entries)) (near_or_far (s.cap - at) s.group (nat_lt (s.cap - at) s.group) refl)
+
+-- that is what a roller asks of those that wait
+pub room_of : (s : Shape) (r : Roll) (from at : ℕ) (entries all waits : List EntryKind) → IsGoodShape s → r.shape ≡ s → rolled_upto r ≡ whole_groups s (from + length entries) → from + length entries ≤ s.cap → at ≡ rolled_upto r → all ≡ entries → waits ≡ drop (at - from) all
+    → 0 < length waits → rolled_upto r + r.shape.group ≤ r.shape.cap
+room_of s r from at entries all waits good shape is within here same are some =
+    let wait : waits ≡ drop (rolled_upto r - from) entries = are ∙ (λ i. drop (here i - from) (same i)) in
+    subst (λ (x : Shape). rolled_upto r + x.group ≤ x.cap) (sym shape) (room_waits s (rolled_upto r) from entries good is within (subst (λ (l : List EntryKind). 0 < length l) wait some))
 
 -- no key is one of no tables
 no_key : (key : ℕ) → is_table_key 0 key ≡ false
@@ -68,13 +75,13 @@ no_key key = by (nat_le (2 ^ 56) key) (nat_lt key ((0 + 1) * 2 ^ 56)) refl refl
     by true true e f = let low : 2 ^ 56 ≤ key = leb-true (2 ^ 56) key e in let high : key < (0 + 1) * 2 ^ 56 = ltb-true key ((0 + 1) * 2 ^ 56) f in absurd (omega (arith, low, high))
 
 never_found : (q : Pair → Bool) → ((p : Pair) → q p ≡ false) → (pairs : List Pair) → find q pairs ≡ None
-never_found q no [] = refl
-never_found q no (p ∷ ps) = rw (no p) (never_found q no ps)
+never_found q out [] = refl
+never_found q out (p ∷ ps) = rw (out p) (never_found q out ps)
 
 pub no_fault : (pairs : List Pair) → table_fault 0 pairs ≡ None
 no_fault pairs =
-    let no : (p : Pair) → (is_table_key 0 p.key && not (is_right pairs p)) ≡ false = λ p. ap (λ (b : Bool). b && not (is_right pairs p)) (no_key p.key) in
-    ap (option_map (λ (p : Pair). p.key)) (never_found (λ p. is_table_key 0 p.key && not (is_right pairs p)) no pairs)
+    let out : (p : Pair) → (is_table_key 0 p.key && not (is_right pairs p)) ≡ false = λ p. ap (λ (b : Bool). b && not (is_right pairs p)) (no_key p.key) in
+    ap (option_map (λ (p : Pair). p.key)) (never_found (λ p. is_table_key 0 p.key && not (is_right pairs p)) out pairs)
 
 -- so there is none to be seen without tables
 pub none_seen : (r : Roll) (from : ℕ) (entries : List EntryKind) → fault_seen 0 r from entries ≡ None
@@ -83,6 +90,9 @@ none_seen r from entries = by (drop (rolled_upto r - from) entries)
     by : (w : List EntryKind) → looked r w 0 ≡ None
     by [] = no_fault (pairs_of r.rolled.tree)
     by (x ∷ xs) = (λ i. option_or (no_fault (pairs_of r.rolled.tree) i) (no_fault (pairs_of (soon r (x ∷ xs)).rolled.tree) i))
+
+pub none_is_seen : (tables : ℕ) (r : Roll) (from : ℕ) (entries : List EntryKind) → tables ≡ 0 → None ≡ fault_seen tables r from entries
+none_is_seen tables r from entries none = sym (ap (λ n. fault_seen n r from entries) none ∙ none_seen r from entries)
 
 -- where a fault is seen there are some
 some_tables : (tables : ℕ) (r : Roll) (from : ℕ) (entries : List EntryKind) (key : ℕ) → Some key ≡ fault_seen tables r from entries → 1 ≤ tables

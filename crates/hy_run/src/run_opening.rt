@@ -32,6 +32,7 @@ fn waiting(entries: &[Shared<Entry>], from: Pos, at: Pos) -> &[Shared<Entry>]
 
 // The least fault of a script's tables on a log that was restarted: of the rows of its whole groups, or of those that there
 // would be once fillers completed the last group.
+#[tactic(auto, using(crate::proofs::TableLooks::none_is_seen))]
 fn fault_of<R: Threads + Sync, G: Gate + Sync>(
     rt: &R,
     alloc: Global,
@@ -70,7 +71,7 @@ pub fn open_run<R: Threads + Sync, D: Disk, G: Gate + Sync>(
     threads: usize,
     gate: &G,
 ) -> Result<Restarted, Status>
-    requires shape { log.shape ≡ script.now.shape }
+    requires shape { log.old.shape ≡ script.now.shape }
     requires threads { IsThreadCount threads }
     ensures found { IfOk result (λ r. AreFoundIn D.tells (header_of log.old) log.old.bodies r.entries.items) }
     ensures opened { IfOk result (λ r. IsOpened D.tells options script.now (header_of log.old) (D.content points.old) r.entries.items r.roller) }
@@ -83,6 +84,7 @@ pub fn open_run<R: Threads + Sync, D: Disk, G: Gate + Sync>(
 {
     opening_looks_tell();
     opening_fault_tells();
+    let _ = script.shape();
     let restarted = restart(rt, alloc, log, points, options.from_point, threads, gate)?;
     let _ = restarted.roller.base_tree();
     match fault_of(rt, alloc, script, log.from(), &restarted, threads, gate)? {
