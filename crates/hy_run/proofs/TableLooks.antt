@@ -129,7 +129,7 @@ module _ {tells : Bool} {script : Workload} {h : Header} {bytes : List ℕ} {fou
       let low = cut_before whole w in
       let at : rolled_upto r ≡ length w.before + (rolled_upto r - h.from) = omega (arith, low, w.cut) in
       let rest : drop (whole_groups script.shape (length whole)) whole ≡ drop (rolled_upto r - h.from) found =
-          (λ i. drop ((upto ∙ at) i) (sym w.whole i)) ∙ drop-append-add w.before found (rolled_upto r - h.from) in
+      (λ i. drop ((upto ∙ at) i) (sym w.whole i)) ∙ drop-append-add w.before found (rolled_upto r - h.from) in
       ap (λ (waits : List EntryKind). looked r waits script.tables) (sym rest) ∙ looks script whole r lawful w.lawful is.shape_is onward (is.stands whole w)
 
   pub opens_sound : OpeningFaultTells → fault_seen script.tables r h.from found ≡ None → (whole : List EntryKind) → IsWholeOf script.shape h.from found start whole → OpensSound script whole
