@@ -1,6 +1,6 @@
 -- What the looks at a script's tables tell.
 use Rattle.std.proofs.Common.{arith, ◌≡◌, ℕ, ◌+◌, ◌*◌, ◌-◌, ◌%◌, ◌<◌, ◌≤◌, Bool, true, false, IsTrue, zero, suc, List, [], ◌∷◌, length, drop, refl, sym, ◌∙◌, ap, subst, inl, inr, length-drop}
-use Rattle.std.specs.Prelude.{◌⊎◌, ◌^◌, Option, Some, None, Result, Ok, Err, nat_lt, nat_le, ◌&&◌, not, find, option_map, if◌then◌else◌}
+use Rattle.std.specs.Prelude.{◌⊎◌, ◌^◌, Option, Some, None, Ok, Err, nat_lt, nat_le, ◌&&◌, not, find, option_map, if◌then◌else◌}
 use Rattle.std.proofs.lemmas.Bool.{leb-true, ltb-false, ltb-true}
 use Rattle.std.proofs.Math.Nat.{mod-eq_of_lt, mod-lt}
 use Rattle.std.proofs.Math.Seq.{drop-append-add}
@@ -13,9 +13,8 @@ use Rattle.hy_base.specs.Tables.{is_table_key}
 use Rattle.hy_base.proofs.GroupLemmas.{whole_gap, whole_is_whole}
 use Rattle.hy_formats.specs.Checkpoint.{Checkpoint}
 use Rattle.hy_formats.specs.declared.header.Header.{Header}
-use Rattle.hy_formats.specs.declared.refusal.RestartError.{RestartError}
 use Rattle.hy_formats.specs.declared.refusal.RestartError.TheVariants as restarting
-use Rattle.hy_formats.specs.Restarting.{IsStart, base_of, not_behind}
+use Rattle.hy_formats.specs.Restarting.{IsStart, base_of}
 use Rattle.hy_points.proofs.Bases.{base_is_before}
 use Rattle.hy_rules.specs.CutLogs.{IsWholeOf}
 use Rattle.hy_rules.specs.SavedPoints.{StandsIfAny}
@@ -129,7 +128,7 @@ module _ {tells : Bool} {script : Workload} {h : Header} {bytes : List ℕ} {fou
       let low = cut_before whole w in
       let at : rolled_upto r ≡ length w.before + (rolled_upto r - h.from) = omega (arith, low, w.cut) in
       let rest : drop (whole_groups script.shape (length whole)) whole ≡ drop (rolled_upto r - h.from) found =
-          (λ i. drop ((upto ∙ at) i) (sym w.whole i)) ∙ drop-append-add w.before found (rolled_upto r - h.from) in
+      (λ i. drop ((upto ∙ at) i) (sym w.whole i)) ∙ drop-append-add w.before found (rolled_upto r - h.from) in
       ap (λ (waits : List EntryKind). looked r waits script.tables) (sym rest) ∙ looks script whole r lawful w.lawful is.shape_is onward (is.stands whole w)
 
   pub opens_sound : OpeningFaultTells → fault_seen script.tables r h.from found ≡ None → (whole : List EntryKind) → IsWholeOf script.shape h.from found start whole → OpensSound script whole

@@ -9,7 +9,9 @@ ghost use Rattle.hy_formats.specs.Texts.{ahead_fault_text, behind_fault_text, ch
 ghost use Rattle.hy_text.specs.LineWords.{spaced};
 
 use crate::texts::{Word, put_line, put_rows, put_verdict, put_words};
-use hy_base::{Entry, EntryKind, Intention, Isolation, Key, Pos, Row, Shape, Verdict, tells_isolation};
+use hy_base::{
+    Entry, EntryKind, Intention, Isolation, Key, Pos, Row, Shape, Verdict, tells_isolation,
+};
 use hy_formats::Header;
 use std::alloc::{AllocError, Global};
 
