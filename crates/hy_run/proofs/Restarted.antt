@@ -19,7 +19,7 @@ use Rattle.hy_disk.proofs.Moments.{joined, quiet_then, weaker}
 use Rattle.hy_formats.specs.declared.refusal.RestartError.{RestartError}
 use Rattle.hy_formats.specs.declared.refusal.RestartError.TheVariants as restarting
 use Rattle.hy_entries.specs.LogEntries.{AreFoundIn}
-use Rattle.hy_restart.specs.Restart.{IsOfLog, IsOfPoint, IsRestarted, RefusesRestart, entries_for}
+use Rattle.hy_restart.specs.Restart.{IsOfLog, IsOfPoint, RefusesRestart, entries_for}
 use Rattle.hy_restart.proofs.Saves.{left_same}
 use Rattle.hy_run.specs.Fates.{DeviceFails, Fits, Growth, opened}
 use Rattle.hy_run.specs.Over.{HasFailed, Over, over}

@@ -1,6 +1,6 @@
 -- What the looks at a script's tables tell.
 use Rattle.std.proofs.Common.{arith, ◌≡◌, ℕ, ◌+◌, ◌*◌, ◌-◌, ◌%◌, ◌<◌, ◌≤◌, Bool, true, false, IsTrue, zero, suc, List, [], ◌∷◌, length, drop, refl, sym, ◌∙◌, ap, subst, inl, inr, length-drop}
-use Rattle.std.specs.Prelude.{◌⊎◌, ◌^◌, Option, Some, None, Result, Ok, Err, nat_lt, nat_le, ◌&&◌, not, find, option_map, if◌then◌else◌}
+use Rattle.std.specs.Prelude.{◌⊎◌, ◌^◌, Option, Some, None, Ok, Err, nat_lt, nat_le, ◌&&◌, not, find, option_map, if◌then◌else◌}
 use Rattle.std.proofs.lemmas.Bool.{leb-true, ltb-false, ltb-true}
 use Rattle.std.proofs.Math.Nat.{mod-eq_of_lt, mod-lt}
 use Rattle.std.proofs.Math.Seq.{drop-append-add}
@@ -13,9 +13,8 @@ use Rattle.hy_base.specs.Tables.{is_table_key}
 use Rattle.hy_base.proofs.GroupLemmas.{whole_gap, whole_is_whole}
 use Rattle.hy_formats.specs.Checkpoint.{Checkpoint}
 use Rattle.hy_formats.specs.declared.header.Header.{Header}
-use Rattle.hy_formats.specs.declared.refusal.RestartError.{RestartError}
 use Rattle.hy_formats.specs.declared.refusal.RestartError.TheVariants as restarting
-use Rattle.hy_formats.specs.Restarting.{IsStart, base_of, not_behind}
+use Rattle.hy_formats.specs.Restarting.{IsStart, base_of}
 use Rattle.hy_points.proofs.Bases.{base_is_before}
 use Rattle.hy_rules.specs.CutLogs.{IsWholeOf}
 use Rattle.hy_rules.specs.SavedPoints.{StandsIfAny}

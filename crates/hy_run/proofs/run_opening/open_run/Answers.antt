@@ -1,5 +1,4 @@
 use Rattle.std.proofs.Common.{◌≡◌, ◌∙◌, sym, ap, subst}
-use Rattle.std.specs.Prelude.{Some, None}
 use Rattle.hy_base.specs.declared.layout.Shape.{Shape}
 use Rattle.hy_restart.specs.Restart.{IsRestarted}
 use Rattle.hy_run.specs.RunningParts.{fault_seen}
