@@ -11,6 +11,9 @@ use std::rt::Files;
 /// makes it where it is missing. Where that fails the call fails, and a later one tries again. A sync waits for the
 /// system's.
 ///
+/// Of a device that is [`preallocated`](FileDisk::preallocated) the file has zeros behind the device's end. They are cut off
+/// when it is dropped, and are left in the file where the process is killed.
+///
 /// The file tells nothing of what it holds. Two devices over one file aren't covered.
 #[derive(Drop)]
 pub struct FileDisk<'a, R: Files> {
@@ -43,7 +46,21 @@ impl<'a, R: Files> FileDisk<'a, R> {
         ensures faults { file_faults result ≡ 0 }
     {
         FileDisk {
-            file: LateFile::new(files, path),
+            file: LateFile::new(files, path, false),
+            faults: 0,
+        }
+    }
+
+    /// The same, over a file that grows by more than is written: a write that ends past the file's end puts 64 KiB of zeros
+    /// behind it, as far as the disk has room for them. So a sync after a write within them doesn't wait for the
+    /// file's new length.
+    pub fn preallocated(files: R, path: &'a str) -> FileDisk<'a, R>
+        ensures path { file_path result ≡ path.now }
+        ensures closed { IsOpen result → ⊥ }
+        ensures faults { file_faults result ≡ 0 }
+    {
+        FileDisk {
+            file: LateFile::new(files, path, true),
             faults: 0,
         }
     }

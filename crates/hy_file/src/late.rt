@@ -1,11 +1,9 @@
 //! A file that is opened in its first call.
-ghost use Rattle.std.specs.Prelude.{◌≡◌, ◌<◌, ◌≤◌, length, take, None, IfOk, IsSome, OnOk};
-ghost use Rattle.std.specs.Io.{ReadsAtMost};
-ghost use Rattle.std.specs.Io.KnownBytes.{Consumes, IsAtEnd};
+ghost use Rattle.std.specs.Prelude.{◌≡◌, ◌+◌, ◌^◌, ◌<◌, ◌≤◌, length, None, IfOk, IsSome, OnOk};
 
-use std::fs::{OpenFile, OpenOptions};
+use crate::preallocated::PreallocatedFile;
+use std::fs::OpenOptions;
 use std::io;
-use std::io::{ErrorKind, Read, Seek, SeekFrom, Write};
 use std::rt::Files;
 
 /// A file at a path. It is opened in the first call that succeeds in that, and stays open.
@@ -13,51 +11,20 @@ use std::rt::Files;
 pub(crate) struct LateFile<'a, R: Files> {
     files: R,
     path: &'a str,
-    file: Option<R::File>,
-}
-
-// One read. It is tried again where a signal interrupts it.
-fn read_some<F: Read>(file: &mut F, into: &mut [u8]) -> io::Result<usize>
-    ensures bound { ReadsAtMost result into.new }
-    ensures bytes { IfOk result (λ n. Consumes (F.remaining file.old) (F.remaining file.new) (take n into.new)) }
-    ensures end { IfOk result (λ n. n ≡ 0 → 0 < length into.new → IsAtEnd (F.remaining file.new)) }
-{
-    for _ in 0..u64::MAX {
-        match file.read(into) {
-            Ok(count) => return Ok(count),
-            Err(error) if error.kind() == ErrorKind::Interrupted => {}
-            Err(error) => return Err(error),
-        }
-    }
-    Err(ErrorKind::Interrupted.into())
-}
-
-// Reads on until the buffer is full or the file is at its end.
-fn fill<F: Read>(file: &mut F, into: &mut [u8]) -> io::Result<usize>
-    ensures bound { ReadsAtMost result into.new }
-    ensures bytes { IfOk result (λ n. Consumes (F.remaining file.old) (F.remaining file.new) (take n into.new)) }
-    ensures end { IfOk result (λ n. n < length into.new → IsAtEnd (F.remaining file.new)) }
-{
-    let mut count = 0;
-    while count < into.len() {
-        let more = read_some(file, &mut into[count..])?;
-        if more == 0 {
-            return Ok(count);
-        }
-        count += more;
-    }
-    Ok(count)
+    fills: bool,
+    file: Option<PreallocatedFile<R::File>>,
 }
 
 impl<'a, R: Files> LateFile<'a, R> {
     // No file is touched here.
-    pub(crate) fn new(files: R, path: &'a str) -> LateFile<'a, R>
+    pub(crate) fn new(files: R, path: &'a str, fills: bool) -> LateFile<'a, R>
         ensures path { result.path.now ≡ path.now }
         ensures closed { result.file ≡ None }
     {
         LateFile {
             files,
             path,
+            fills,
             file: None,
         }
     }
@@ -71,7 +38,8 @@ impl<'a, R: Files> LateFile<'a, R> {
         }
         let mut how = OpenOptions::new();
         how.read(true).write(true).create(true);
-        self.file = Some(how.open(&self.files, self.path)?);
+        let file = how.open(&self.files, self.path)?;
+        self.file = Some(PreallocatedFile::over(file, self.fills)?);
         Ok(())
     }
 
@@ -80,10 +48,10 @@ impl<'a, R: Files> LateFile<'a, R> {
         ensures { OnOk result (IsSome self.new.file) }
     {
         self.open()?;
-        let Some(file) = &mut self.file else {
+        let Some(file) = &self.file else {
             unreachable!();
         };
-        file.seek(SeekFrom::End(0))
+        Ok(file.len())
     }
 
     // The bytes from a place on, to the end of the buffer or of the file.
@@ -95,20 +63,19 @@ impl<'a, R: Files> LateFile<'a, R> {
         let Some(file) = &mut self.file else {
             unreachable!();
         };
-        file.seek(SeekFrom::Start(place))?;
-        fill(file, into)
+        file.read(place, into)
     }
 
     // Writes all the bytes, from a place on.
     pub(crate) fn write_at(&mut self, place: u64, bytes: &[u8]) -> io::Result<()>
+        requires fits { place + length bytes.now < 2 ^ 64 }
         ensures { OnOk result (IsSome self.new.file) }
     {
         self.open()?;
         let Some(file) = &mut self.file else {
             unreachable!();
         };
-        file.seek(SeekFrom::Start(place))?;
-        file.write_all(bytes)
+        file.write_at(place, bytes)
     }
 
     // Waits until the system has stored what was written, and the length.
@@ -116,9 +83,9 @@ impl<'a, R: Files> LateFile<'a, R> {
         ensures { OnOk result (IsSome self.new.file) }
     {
         self.open()?;
-        let Some(file) = &mut self.file else {
+        let Some(file) = &self.file else {
             unreachable!();
         };
-        file.sync_all()
+        file.sync()
     }
 }

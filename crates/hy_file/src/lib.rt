@@ -8,5 +8,6 @@
 
 mod disk;
 mod late;
+mod preallocated;
 
 pub use disk::FileDisk;

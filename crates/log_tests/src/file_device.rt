@@ -72,6 +72,35 @@ fn a_file_keeps_what_was_written(rt: HostRuntime) -> Result<(), Fail> {
     Ok(())
 }
 
+// Whether the file has so many bytes.
+fn is_long<R: Files>(rt: &R, bytes: u64) -> bool {
+    match fs::metadata(rt, PATH) {
+        Ok(about) => about.len() == bytes,
+        Err(_) => false,
+    }
+}
+
+// Whether a device writes zeros behind its end, which aren't of it.
+fn fills_ahead<R: Files>(rt: &R) -> bool {
+    let mut disk = FileDisk::preallocated(rt, PATH);
+    let mut room = [b'.'; 4];
+    disk.write_at(0, b"transaction") == Ok(())
+        && disk.write_at(11, b" log") == Ok(())
+        && disk.sync() == Ok(())
+        && disk.len() == Ok(15)
+        && reads(&mut disk, 12, 3, &mut room, b"log.")
+        && is_long(rt, 11 + 65536)
+}
+
+#[test]
+fn zeros_behind_the_end_are_cut_off(rt: HostRuntime) -> Result<(), Fail> {
+    assert!(rt; fills_ahead(&rt));
+    assert!(rt; is_long(&rt, 15));
+    assert!(rt; has(&rt, b"transaction log"));
+    fs::remove_file(&rt, PATH)?;
+    Ok(())
+}
+
 // Whether each call of a device fails, and is counted, while there is no folder for its file.
 fn fails_without_folder<D: Disk>(disk: &mut D) -> bool {
     disk.len() == Err(Failed)

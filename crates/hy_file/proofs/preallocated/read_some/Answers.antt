@@ -1,7 +1,7 @@
 use Rattle.std.proofs.Common.{◌∙◌, ℕ, List, Option, Some, None, sym}
 use Rattle.std.specs.Io.KnownBytes.{Consumes, Keeps}
 use Rattle.std.proofs.KnownBytes.{Keeps-refl, Keeps-trans}
-use Rattle.hy_file.proofs.late.read_some.Goals as goal
+use Rattle.hy_file.proofs.preallocated.read_some.Goals as goal
 
 -- what is read after tries that took nothing
 kept_then : (old mid new : Option (List ℕ)) (bytes : List ℕ) → Keeps old mid → Consumes mid new bytes → Consumes old new bytes

@@ -4,7 +4,7 @@ use Rattle.std.proofs.lemmas.List.{take-append-le}
 use Rattle.std.specs.Io.KnownBytes.{Consumes}
 use Rattle.std.proofs.KnownBytes.{Consumes-nil, Consumes-trans}
 use borrow.Rule.Slice.PartMut.{put_mid, post_of}
-use Rattle.hy_file.proofs.late.fill.Goals as goal
+use Rattle.hy_file.proofs.preallocated.fill.Goals as goal
 
 -- the front of a list, and then the front of what was put in behind it
 front_is : (a k n : ℕ) (old new : List ℕ) → a ≤ length old → n ≤ length new → take (a + n) (put_mid a k old new) ≡ take a old ++ take n new
@@ -14,7 +14,7 @@ front_is a k n old new within fits =
     ∙ take-append-add (take a old) (new ++ post_of a k old) n
     ∙ ap (λ l. take a old ++ l) (take-append-le n new (post_of a k old) fits)
 
--- src/late.rt:41:5
+-- src/preallocated.rt:41:5
 pub loop-count-preserved : goal.loop-count-preserved
 loop-count-preserved g c =
     let count = c.loop-count.count in

@@ -1,5 +1,5 @@
 use Rattle.std.specs.Io.KnownBytes.{Keeps}
-use Rattle.hy_file.proofs.late.read_some.Given as goal
+use Rattle.hy_file.proofs.preallocated.read_some.Given as goal
 
 -- the tries so far took nothing
 abbrev pub invariant-loop : goal.invariant-loop

@@ -1,6 +1,6 @@
 use Rattle.std.proofs.Common.{◌≤◌, ◌-◌, length, take}
 use Rattle.std.specs.Io.KnownBytes.{Consumes}
-use Rattle.hy_file.proofs.late.fill.Given as goal
+use Rattle.hy_file.proofs.preallocated.fill.Given as goal
 
 -- the buffer begins with what was read so far
 abbrev pub invariant-loop-count : goal.invariant-loop-count
