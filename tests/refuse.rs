@@ -1,7 +1,7 @@
 //! A library to be loaded before a program (LD_PRELOAD): it refuses one growth of memory, or fails one call on a file.
 //!
-//! REFUSE_GROWTH=N refuses the N-th call of malloc, calloc or realloc; REFUSE_CALL=N fails the N-th of read, write, lseek, open and
-//! fsync, and every later one too where REFUSE_REST is set. Where it has done that, the file `refused` stands in the working folder.
+//! REFUSE_GROWTH=N refuses the N-th call of malloc, calloc or realloc; REFUSE_CALL=N fails the N-th of read, write, lseek, open,
+//! fsync, fdatasync and ftruncate, and every later one too where REFUSE_REST is set. Where it has done that, the file `refused` stands in the working folder.
 #![no_std]
 #![crate_type = "cdylib"]
 
@@ -115,4 +115,14 @@ pub unsafe extern "C" fn open(path: *const c_char, how: c_int, mode: u32) -> c_i
 #[unsafe(no_mangle)]
 pub unsafe extern "C" fn fsync(file: c_int) -> c_int {
     unsafe { if fails(5) { -1 } else { syscall(74, file) as c_int } }
+}
+
+#[unsafe(no_mangle)]
+pub unsafe extern "C" fn fdatasync(file: c_int) -> c_int {
+    unsafe { if fails(5) { -1 } else { syscall(75, file) as c_int } }
+}
+
+#[unsafe(no_mangle)]
+pub unsafe extern "C" fn ftruncate(file: c_int, size: i64) -> c_int {
+    unsafe { if fails(5) { -1 } else { syscall(77, file, size) as c_int } }
 }
