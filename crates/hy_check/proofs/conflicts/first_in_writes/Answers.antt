@@ -1,0 +1,15 @@
+use Rattle.std.proofs.Common.{ℕ, ◌-◌, ◌∙◌, sym, arith}
+use Rattle.std.specs.Prelude.{◌==◌}
+use Rattle.hy_base.specs.declared.record.Write.{Write}
+use Rattle.hy_check.proofs.Lookup.{first_of_none, first_of_more, first_at_key}
+use Rattle.hy_check.proofs.conflicts.first_in_writes.Goals as goal
+
+pub loop-at-init : goal.loop-at-init
+loop-at-init g c = record { within = omega arith; found = sym (first_of_none (λ (write : Write) (key : ℕ). write.key == key) c.args.writes.now c.args.after c.args.tree.now) }
+
+pub loop-at-preserved : goal.loop-at-preserved
+loop-at-preserved g c = record {
+  within = omega (arith, c.loop-at.invariant.within);
+  found = c.earliest_of-found.ensures ∙ first_of_more (λ (write : Write) (key : ℕ). write.key == key) c.args.writes.now (c.loop-at.at - 1) c.loop-at.at c.index-writes-at.result _ c.args.after c.args.tree.now c.first_in_span.result c.loop-at.found
+      c.first_in_span.ensures.valid.ordered (omega (arith, c.loop-at.invariant.within, c.loop-at-test.true)) c.index-writes-at.is (omega (arith, c.loop-at-test.true)) (c.first_in_span.ensures.late ∙ first_at_key c.index-writes-at.result.key c.args.after c.args.tree.now) c.loop-at.invariant.found;
+}

@@ -1,0 +1,213 @@
+//! The verdicts and rows of a log, by the last rows of keys.
+//!
+//! No entry is compared with all that committed past its snapshot: whether a key was written since is told by its last row. Three
+//! states of the rows are kept, that after all groups so far and those at the ends of the last two whole windows, the earlier of
+//! which is the premeld base.
+ghost use Rattle.std.specs.Prelude.{◌≡◌, ◌==◌, ◌+◌, ◌*◌, ◌/◌, ◌%◌, ◌^◌, ◌<◌, ◌≤◌, [], length, drop, ◌++◌, OnOk, IfOk, if◌then◌else◌};
+ghost use Rattle.hy_base.specs.Shape.{IsGoodShape};
+ghost use Rattle.hy_base.specs.Log.{IsLawful};
+ghost use Rattle.hy_base.specs.Lists.{put};
+ghost use Rattle.hy_base.specs.Rows.{applied, purged, row_before};
+ghost use Rattle.hy_base.specs.Verdicts.{is_commit};
+ghost use Rattle.hy_rules.specs.History.{committed_at, history_from};
+ghost use Rattle.hy_rules.specs.Folds.{folded_after};
+
+use crate::group::{add_rows, judge_group};
+use hy_base::{Entry, EntryKind, Items, Pos, Row, Shape, Steps, Verdict};
+use hy_rules::Folded;
+use hy_tree::{Tree, View};
+use std::alloc::{AllocError, Global};
+use std::marker::Brand;
+use std::sync::ledger::{Blank, Ledger};
+
+// Adds what an entry wrote, where it committed.
+fn add_committed(
+    history: &mut Vec<Row>,
+    pos: Pos,
+    entry: &Entry,
+    verdict: Option<Verdict>,
+) -> Result<(), AllocError>
+    ensures { OnOk result (history.new.items ≡ history.old.items ++ committed_at pos entry.now (is_commit verdict)) }
+{
+    if let (Some(Verdict::Commit), EntryKind::Txn(intention)) = (verdict, entry.kind()) {
+        add_rows(history, pos, intention.writes.as_slice())?;
+    }
+    Ok(())
+}
+
+// Adds the verdicts of a group, and what its members wrote that committed.
+fn add_group(
+    verdicts: &mut Vec<Option<Verdict>>,
+    history: &mut Vec<Row>,
+    upto: Pos,
+    group: &[Entry],
+    judged: &[Option<Verdict>],
+) -> Result<(), AllocError>
+    requires fits { upto + length group.now < 2 ^ 32 }
+    requires count { length judged.now ≡ length group.now }
+    ensures verdicts { OnOk result (verdicts.new.items ≡ verdicts.old.items ++ judged.now) }
+    ensures history { OnOk result (history.new.items ≡ history.old.items ++ history_from (upto + 1) group.now judged.now) }
+{
+    let mut pos = upto;
+    for at in 0..group.len() {
+        pos += 1;
+        add_committed(history, pos, &group[at], judged[at])?;
+        verdicts.push(judged[at])?;
+    }
+    Ok(())
+}
+
+fn with_row(alloc: Global, tree: &Tree, row: &Row) -> Result<Tree, AllocError>
+    ensures { IfOk result (λ t. t ≡ put row_before row.now tree.now) }
+{
+    let Row { key, writer, value } = row.clone()?;
+    tree.put(alloc, key, writer, value)
+}
+
+// The tree with these rows put in place, one after another.
+fn with_rows(alloc: Global, tree: Tree, rows: &[Row]) -> Result<Tree, AllocError>
+    ensures { IfOk result (λ t. t ≡ applied tree rows.now) }
+{
+    let mut tree = tree;
+    for row in rows {
+        tree = with_row(alloc, &tree, row)?;
+    }
+    Ok(tree)
+}
+
+// The last row of each key: after the groups so far, and at the ends of the last two whole windows.
+#[derive(Drop)]
+struct LastRows {
+    now: Tree,
+    kept: Tree,
+    base: Tree,
+}
+
+impl LastRows {
+    fn none() -> LastRows
+        ensures { result ≡ record { now = []; kept = []; base = [] } }
+    {
+        LastRows {
+            now: Tree::empty(),
+            kept: Tree::empty(),
+            base: Tree::empty(),
+        }
+    }
+
+    // With what one more group committed, the history from a place on. It may be the last group of a window.
+    fn with_group(
+        self,
+        alloc: Global,
+        history: &[Row],
+        from: usize,
+        is_last: bool,
+    ) -> Result<LastRows, AllocError>
+        requires { from ≤ length history.now }
+        ensures now { IfOk result (λ after. after.now ≡ applied self.now (drop from history.now)) }
+        ensures kept { IfOk result (λ after. after.kept ≡ (if is_last then applied self.now (drop from history.now) else self.kept)) }
+        ensures base { IfOk result (λ after. after.base ≡ (if is_last then self.kept else self.base)) }
+    {
+        let LastRows { now, kept, base } = self;
+        let now = with_rows(alloc, now, &history[from..])?;
+        if is_last {
+            Ok(LastRows {
+                base: kept,
+                kept: now.share()?,
+                now,
+            })
+        } else {
+            Ok(LastRows { now, kept, base })
+        }
+    }
+}
+
+// Adds the rows of a tree without the tombstones at or below a line.
+fn add_unpurged<L: Ledger>(
+    rows: &mut Vec<Row>,
+    tree: &Tree,
+    line: Pos,
+    steps: &mut Steps<L>,
+) -> Result<(), AllocError>
+    ensures { OnOk result (rows.new.items ≡ rows.old.items ++ purged line tree.now) }
+{
+    match tree.view(steps) {
+        View::Empty => Ok(()),
+        View::Row(row) => {
+            if row.value.is_none() && row.writer <= line {
+                return Ok(());
+            }
+            rows.push(row.clone()?)?;
+            Ok(())
+        }
+        View::Fork { left, right, .. } => {
+            add_unpurged(rows, left, line, steps)?;
+            add_unpurged(rows, right, line, steps)
+        }
+    }
+}
+
+fn unpurged_counted<L: Ledger>(
+    alloc: Global,
+    tree: &Tree,
+    line: Pos,
+    blank: Blank,
+) -> Result<Vec<Row>, AllocError>
+    requires own { (blank.name ≡ L.name) × (blank.parts ≡ L.parts) }
+    requires some { 0 < L.parts }
+    ensures { IfOk result (λ rows. rows.items ≡ purged line tree.now) }
+{
+    let mut rows = Vec::new(alloc);
+    add_unpurged(&mut rows, tree, line, &mut Steps::<L>::new(blank))?;
+    Ok(rows)
+}
+
+// The rows of a tree without the tombstones at or below a line.
+fn unpurged(alloc: Global, tree: &Tree, line: Pos) -> Result<Vec<Row>, AllocError>
+    ensures { IfOk result (λ rows. rows.items ≡ purged line tree.now) }
+{
+    unpurged_counted::<Brand>(alloc, tree, line, Blank::new(1))
+}
+
+/// What the whole groups of a log decide: the verdicts, all that committed, and the rows after them.
+pub(crate) fn indexed_fold(
+    alloc: Global,
+    entries: &[Entry],
+    shape: Shape,
+) -> Result<Folded, AllocError>
+    requires good { IsGoodShape shape }
+    requires lawful { IsLawful shape entries.now }
+    ensures { IfOk result (λ folded. folded ≡ folded_after shape entries.now (length entries.now / shape.group)) }
+{
+    let size = shape.group as usize;
+    let mut groups = 0;
+    let mut verdicts = Vec::new(alloc);
+    let mut history = Vec::new(alloc);
+    let mut last = LastRows::none();
+    let mut upto = 0;
+    while upto + size <= entries.len() {
+        let base = shape.base(groups + 1);
+        let oldest = shape.oldest_snap(groups);
+        let group = &entries[upto..upto + size];
+        let judged = judge_group(
+            alloc,
+            &last.base,
+            &last.now,
+            oldest,
+            base,
+            upto as Pos,
+            group,
+        )?;
+        let before = history.len();
+        add_group(&mut verdicts, &mut history, upto as Pos, group, &judged)?;
+        groups += 1;
+        upto += size;
+        let is_last = groups % shape.window as u32 == 0;
+        last = last.with_group(alloc, &history, before, is_last)?;
+    }
+    Ok(Folded {
+        groups,
+        verdicts: Items::from_vec(verdicts),
+        history: Items::from_vec(history),
+        rows: Items::from_vec(unpurged(alloc, &last.now, shape.line(groups))?),
+    })
+}
