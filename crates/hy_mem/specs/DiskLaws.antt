@@ -1,35 +1,19 @@
 -- The laws of a device in memory.
-use Rattle.std.proofs.Common.{◌≡◌, inl, inr, ℕ, ◌≤◌, List, [], ◌∷◌, length, Option, Some, None, sym, subst, arith}
+use Rattle.std.proofs.Common.{◌⊎◌, inl, inr, ℕ, ◌≤◌, List, [], ◌∷◌, length, Option, Some, None, arith}
 use Rattle.hy_disk.specs.Content.{Content, Image}
-use Rattle.hy_disk.proofs.Seen.{seen_settled, seen_written}
 use Rattle.hy_mem.specs.DiskFailures.{IsEarlierCall}
-use Rattle.hy_mem.specs.DiskPast.{DeviceEvent, wrote, synced, replay, LeftSince}
+use Rattle.hy_mem.specs.DiskPast.{LeftBefore}
 
-seen-replay : (first : List ℕ) (earlier : List DeviceEvent) → Image (replay first earlier) (replay first earlier).seen
-seen-replay first [] = seen_settled first
-seen-replay first (wrote place bytes ∷ earlier) = seen_written (replay first earlier) place bytes (seen-replay first earlier)
-seen-replay first (synced ∷ earlier) = seen_settled (replay first earlier).seen
+-- before the last sync is no moment since it
+none_later : (before : List Content) (t : ℕ) (image : List ℕ) → length before ≤ t → LeftBefore before t image → ⊥
+none_later [] t image later left = left
+none_later (content ∷ earlier) t image later (inl here) = omega (arith, here.0)
+none_later (content ∷ earlier) t image later (inr left) = none_later earlier t image (omega arith) left
 
-only-last : (first : List ℕ) (events : List DeviceEvent) (image : List ℕ) → LeftSince first events (length events) image → Image (replay first events) image
-only-last first [] image left = left
-only-last first (event ∷ earlier) image (inl now) = now
-only-last first (event ∷ earlier) image (inr past) = absurd (omega (arith, past.0))
-
-counts-last : (first : List ℕ) (events : List DeviceEvent) (t : ℕ) (image : List ℕ) → Image (replay first events) image → LeftSince first events t image
-counts-last first [] t image now = now
-counts-last first (event ∷ earlier) t image now = inl now
-
--- what a read gives is an image
-pub seen_may_stay : (first : List ℕ) (events : List DeviceEvent) (content : Content) → replay first events ≡ content → Image content content.seen
-seen_may_stay first events content is = subst (λ (k : Content). Image k k.seen) is (seen-replay first events)
-
--- a crash now is one since each earlier moment
-pub counts_now : (first : List ℕ) (events : List DeviceEvent) (content : Content) (t : ℕ) (image : List ℕ) → replay first events ≡ content → Image content image → LeftSince first events t image
-counts_now first events content t image is now = counts-last first events t image (subst (λ (k : Content). Image k image) (sym is) now)
-
--- since the last event there is what there is now
-pub only_now : (first : List ℕ) (events : List DeviceEvent) (content : Content) (image : List ℕ) → replay first events ≡ content → LeftSince first events (length events) image → Image content image
-only_now first events content image is left = subst (λ (k : Content). Image k image) is (only-last first events image left)
+-- since the last sync there is what there is now
+pub only_now : (before : List Content) (content : Content) (image : List ℕ) → Image content image ⊎ LeftBefore before (length before) image → Image content image
+only_now before content image (inl is) = is
+only_now before content image (inr left) = absurd (none_later before (length before) image (omega arith) left)
 
 -- fewer calls come before the armed one, where more do
 pub is_before : (j k : ℕ) (armed : Option ℕ) → IsEarlierCall k armed → j ≤ k → IsEarlierCall j armed

@@ -1,27 +1,9 @@
 -- What a device in memory has been through.
 use Rattle.std.specs.Prelude.{◌⊎◌, ℕ, ◌≤◌, List, [], ◌∷◌, length}
-use Rattle.hy_disk.specs.Content.{Content, Image, settled, with_pending}
+use Rattle.hy_disk.specs.Content.{Content, Image}
 
-pub data DeviceEvent : Type 0 where
-  wrote : ℕ → List ℕ → DeviceEvent
-  synced : DeviceEvent
-
--- from these bytes, through the events, of which the newest comes first
-abbrev pub replay : List ℕ → List DeviceEvent → Content
-replay first [] = settled first
-replay first (wrote place bytes ∷ earlier) = with_pending (replay first earlier) place bytes
-replay first (synced ∷ earlier) = settled (replay first earlier).seen
-
--- what a crash after so many events or more might have left
-abbrev pub LeftSince : List ℕ → List DeviceEvent → ℕ → List ℕ → Type 0
-LeftSince first [] t image = Image (settled first) image
-LeftSince first (event ∷ earlier) t image = Image (replay first (event ∷ earlier)) image ⊎ ((t ≤ length earlier) × LeftSince first earlier t image)
-
--- The bytes at the beginning, and each event since, the newest first. Without memory it can take so many events more, of so
--- many bytes in all, and can begin anew with so many bytes.
-pub record Past : Type 0 where
-  pub first : List ℕ
-  pub events : List DeviceEvent
-  pub calls : ℕ
-  pub bytes : ℕ
-  pub most : ℕ
+-- What a crash after so many syncs or more, and before the last one, might have left: by what was held just before each sync, the newest first. A write
+-- only adds to what a crash may leave, so what was held last between two syncs tells of each moment there.
+abbrev pub LeftBefore : List Content → ℕ → List ℕ → Type 0
+LeftBefore [] t image = ⊥
+LeftBefore (content ∷ earlier) t image = ((t ≤ length earlier) × Image content image) ⊎ LeftBefore earlier t image

@@ -1,5 +1,4 @@
 pub mod DiskFailures
-pub mod Changes
 pub mod DiskPast
 pub mod DiskLaws
 pub mod MemDisk
@@ -7,3 +6,4 @@ pub mod Reserved
 pub mod Room
 pub mod RoomLaws
 pub mod Store
+pub mod Undo

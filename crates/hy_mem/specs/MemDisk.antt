@@ -1,10 +1,10 @@
 -- What a device in memory shows.
-use Rattle.std.specs.Prelude.{◌≡◌, ℕ, ◌+◌, ◌≤◌, List, length, Some}
-use Rattle.hy_disk.specs.Content.{Content}
+use Rattle.std.specs.Prelude.{◌≡◌, ◌⊎◌, ℕ, ◌+◌, ◌≤◌, List, length, Some}
+use Rattle.hy_disk.specs.Content.{Content, Image}
 use Rattle.hy_mem.specs.declared.memory.MemDisk.{MemDisk}
 use Rattle.hy_mem.specs.declared.room.Room.{Room}
 use Rattle.hy_mem.specs.DiskFailures.{DevicePlan, IsSoundPlan, IsEarlierCall, spare}
-use Rattle.hy_mem.specs.DiskPast.{LeftSince}
+use Rattle.hy_mem.specs.DiskPast.{LeftBefore}
 
 -- what it holds
 abbrev pub content_of : MemDisk → Content
@@ -18,13 +18,13 @@ plan_of disk = disk.calls
 abbrev pub room_of : MemDisk → Room
 room_of disk = disk.room
 
--- how many events it has been through
+-- how many syncs it has done
 abbrev pub moment_of : MemDisk → ℕ
-moment_of disk = length disk.past.events
+moment_of disk = length disk.store.before
 
 -- what a crash since a moment might have left
 abbrev pub left_since_of : MemDisk → ℕ → List ℕ → Type 0
-left_since_of disk = LeftSince disk.past.first disk.past.events
+left_since_of disk t image = Image (content_of disk) image ⊎ LeftBefore disk.store.before t image
 
 -- the k-th write or sync from now on is armed
 abbrev pub Strikes : MemDisk → ℕ → Type 0

@@ -8,8 +8,8 @@
 
 mod buffers;
 mod calls;
+mod mark;
 mod memory;
-mod past;
 mod room;
 mod store;
 

@@ -6,12 +6,10 @@ ghost use Rattle.hy_disk.specs.Moments.{Elapses};
 ghost use Rattle.hy_disk.specs.Stops.{stopped};
 ghost use Rattle.hy_disk.specs.Strikes.{IsUnarmed};
 ghost use Rattle.hy_mem.specs.DiskFailures.{fresh_device_plan, cleared, read_fails, change_fails, after_read, after_change};
-ghost use Rattle.hy_mem.specs.DiskPast.{replay};
 ghost use Rattle.hy_mem.specs.Reserved.{IsReserved};
 ghost use Rattle.hy_mem.specs.Room.{is_room_for, room_after, widened};
 
 use crate::calls::DeviceCalls;
-use crate::past::Past;
 use crate::room::Room;
 use crate::store::Store;
 use hy_disk::{Disk, Failed, Tuned};
@@ -24,11 +22,10 @@ use std::alloc::{AllocError, Global};
 #[derive(Drop)]
 pub struct MemDisk {
     store: Store,
-    past: Past,
     calls: DeviceCalls,
     room: Room,
-    ghost replayed: { replay past.first past.events ≡ store.content },
-    ghost reserved: { IsReserved room store past },
+    ghost stays: { Image store.content store.content.seen },
+    ghost reserved: { IsReserved room store },
 }
 
 impl MemDisk {
@@ -68,7 +65,6 @@ impl MemDisk {
     {
         Ok(MemDisk {
             store: Store::new(alloc, bytes)?,
-            past: Past::new(alloc, bytes)?,
             calls: DeviceCalls::new(alloc, fails, passes)?,
             room: Room { calls: 0, bytes: 0 },
         })
@@ -95,24 +91,18 @@ impl MemDisk {
     {
         let MemDisk {
             mut store,
-            mut past,
             mut calls,
             room,
         } = self;
         store.stop(pattern);
-        past.restart(store.bytes());
         calls.clear();
-        MemDisk {
-            store,
-            past,
-            calls,
-            room,
-        }
+        MemDisk { store, calls, room }
     }
 }
 
 impl Disk for MemDisk {
-    ghost use Rattle.hy_mem.specs.DiskLaws.{seen_may_stay, counts_now, only_now};
+    ghost use Rattle.std.proofs.Common.{inl};
+    ghost use Rattle.hy_mem.specs.DiskLaws.{only_now};
     ghost use Rattle.hy_mem.specs.MemDisk.{content_of, plan_of, room_of, moment_of, left_since_of, HasRoom, Strikes};
     ghost use Rattle.hy_mem.specs.RoomLaws.{room_shrinks};
 
@@ -130,11 +120,11 @@ impl Disk for MemDisk {
 
     ghost strikes = { Strikes };
 
-    ghost seen_may_stay = { λ disk told. seen_may_stay disk.past.first disk.past.events (content_of disk) disk.replayed };
+    ghost seen_may_stay = { λ disk told. disk.stays };
 
-    ghost counts_now = { λ disk t image told earlier now. counts_now disk.past.first disk.past.events (content_of disk) t image disk.replayed now };
+    ghost counts_now = { λ disk t image told earlier now. inl now };
 
-    ghost only_now = { λ disk image left. only_now disk.past.first disk.past.events (content_of disk) image disk.replayed left };
+    ghost only_now = { λ disk image left. only_now disk.store.before (content_of disk) image left };
 
     ghost room_shrinks = { room_shrinks };
 
@@ -186,7 +176,6 @@ impl Disk for MemDisk {
         if !has_room {
             return answer;
         }
-        self.past.add_write(place as usize, bytes);
         self.store.write(place as usize, bytes);
         self.room = self.room.after(bytes.len());
         answer
@@ -203,7 +192,6 @@ impl Disk for MemDisk {
     {
         let has_room = self.room.is_for(0);
         self.calls.change(!has_room)?;
-        self.past.add_sync();
         self.store.sync();
         self.room = self.room.after(0);
         Ok(())
@@ -225,14 +213,7 @@ impl Tuned for MemDisk {
         ensures same { content_of self.new ≡ content_of self.old }
         ensures time { Elapses (moment_of self.old) (moment_of self.new) (left_since_of self.old) (left_since_of self.new) (content_of self.new) }
     {
-        let most = self
-            .store
-            .bytes()
-            .len()
-            .checked_add(self.room.bytes.max(bytes))
-            .ok_or(AllocError)?;
         self.store.reserve(calls, bytes)?;
-        self.past.reserve(calls, bytes, most)?;
         self.room = self.room.widened(calls, bytes);
         Ok(())
     }
