@@ -1,7 +1,7 @@
 -- A group that is judged by the last rows of keys is judged as by all that committed.
-use Rattle.std.proofs.Common.{◌≡◌, ℕ, ◌+◌, ◌≤◌, max, arith, false, subst, List, [], ◌∷◌, ◌++◌, Option, Some, None, refl, sym, ap, ◌∙◌}
+use Rattle.std.proofs.Common.{◌≡◌, ℕ, ◌+◌, ◌≤◌, max, arith, false, subst, List, [], ◌∷◌, ◌++◌, Option, refl, sym, ap, ◌∙◌}
 use Rattle.std.proofs.lemmas.Bool.{le-ltb}
-use Rattle.std.specs.Prelude.{nat_lt, nat_le, flat_map, map, Result, Ok, Err, IfOk}
+use Rattle.std.specs.Prelude.{nat_lt, flat_map, map, Result, Ok, Err, IfOk}
 use Rattle.hy_base.specs.declared.record.EntryKind.{EntryKind}
 use Rattle.hy_base.specs.declared.record.EntryKind.TheVariants.{Filler, Txn}
 use Rattle.hy_base.specs.declared.record.Intention.{Intention}

@@ -1,5 +1,5 @@
 -- What is found in parts of rows, and by several tests of their keys.
-use Rattle.std.proofs.Common.{◌≡◌, ℕ, zero, suc, ◌/◌, ◌^◌, ◌<◌, ◌≤◌, ◌||◌, Bool, true, false, cond, leb, ltb, eqb, List, [], ◌∷◌, ◌++◌, length, get_or, drop, Option, Some, None, refl, sym, ap, ◌∙◌, arith, inl, inr, drop-cons}
+use Rattle.std.proofs.Common.{◌≡◌, ℕ, suc, ◌/◌, ◌^◌, ◌<◌, ◌≤◌, ◌||◌, Bool, true, false, cond, leb, ltb, List, [], ◌∷◌, ◌++◌, length, get_or, drop, Option, Some, None, refl, sym, ap, ◌∙◌, arith, inl, inr, drop-cons}
 use Rattle.std.specs.Prelude.{IfSome, ◌==◌, ◌&&◌}
 use Rattle.std.specs.List.{list_any}
 use Rattle.std.proofs.lemmas.Bool.{cases_Bool, cases_eq, le-leb, le-ltb, lt-leb, eq-eqb, ne_eqb}
@@ -13,7 +13,7 @@ use Rattle.hy_base.proofs.EachLemmas.{Each-map}
 use Rattle.hy_base.proofs.MarkLemmas.{same_late}
 use Rattle.hy_tree.specs.TreeRows.{InBlock, greatest_writer}
 use Rattle.hy_tree.proofs.Bits.{lt_from_quotients}
-use Rattle.hy_rules.specs.Validation.{comes_first, earlier}
+use Rattle.hy_rules.specs.Validation.{comes_first}
 use Rattle.hy_rules.specs.Members.{earliest}
 use Rattle.hy_check.specs.Conflicts.{known_where}
 

@@ -1,8 +1,7 @@
 use Rattle.std.proofs.Common.{ℕ, ◌-◌, ◌∙◌, refl, sym, arith}
-use Rattle.std.specs.Prelude.{◌==◌}
 use Rattle.hy_base.specs.declared.record.Span.{Span}
 use Rattle.hy_base.specs.Entry.{is_in_span}
-use Rattle.hy_check.proofs.Lookup.{first_of_none, first_of_more, first_at_key}
+use Rattle.hy_check.proofs.Lookup.{first_of_none, first_of_more}
 use Rattle.hy_check.proofs.conflicts.first_in_spans.Goals as goal
 
 pub loop-at-init : goal.loop-at-init

@@ -1,7 +1,6 @@
 use Rattle.std.proofs.Common.{◌≡◌, ◌≤◌, length, drop}
 use Rattle.std.specs.Prelude.{◌==◌}
 use Rattle.std.specs.List.{list_any}
-use Rattle.hy_base.specs.Entry.{is_in_span}
 use Rattle.hy_base.specs.Marks.{first_late}
 use Rattle.hy_check.specs.Conflicts.{known_where}
 use Rattle.hy_check.proofs.conflicts.first_in_writes.Given as goal

@@ -1,4 +1,4 @@
-use Rattle.std.proofs.Common.{◌≡◌, ℕ, ◌+◌, ◌*◌, ◌-◌, ◌/◌, ◌≤◌, ◌∙◌, ◌++◌, List, length, take, drop, sym, ap, subst, refl, arith, length-append, length-take, length-drop}
+use Rattle.std.proofs.Common.{◌≡◌, ℕ, ◌+◌, ◌*◌, ◌-◌, ◌/◌, ◌≤◌, ◌∙◌, ◌++◌, List, length, take, drop, sym, ap, subst, arith, length-append, length-take, length-drop}
 use Rattle.std.proofs.Math.Seq.{drop-append_seam}
 use Rattle.std.specs.Prelude.{slice_range}
 use Rattle.hy_base.specs.declared.record.Row.{Row}

@@ -1,7 +1,6 @@
 use Rattle.std.proofs.Common.{◌≡◌, ◌≤◌, ◌*◌, ◌-◌, length}
 use Rattle.hy_base.specs.Shape.{base_groups, kept_groups}
 use Rattle.hy_base.specs.Rows.{newest}
-use Rattle.hy_rules.specs.History.{history}
 use Rattle.hy_rules.specs.Validation.{verdicts_after, history_after}
 use Rattle.hy_check.proofs.fold.indexed_fold.Given as goal
 
