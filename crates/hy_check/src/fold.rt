@@ -10,15 +10,25 @@ ghost use Rattle.hy_base.specs.Lists.{put};
 ghost use Rattle.hy_base.specs.Rows.{applied, purged, row_before};
 ghost use Rattle.hy_base.specs.Verdicts.{is_commit};
 ghost use Rattle.hy_rules.specs.History.{committed_at, history_from};
-ghost use Rattle.hy_rules.specs.Folds.{folded_after};
+ghost use Rattle.hy_rules.specs.Validation.{verdicts, rows};
+ghost use Rattle.hy_check.specs.Folds.{folded_after};
 
 use crate::group::{add_rows, judge_group};
-use hy_base::{Entry, EntryKind, Items, Pos, Row, Shape, Steps, Verdict};
-use hy_rules::Folded;
+use hy_base::{Entry, EntryKind, Items, Pos, Row, Rows, Shape, Steps, Verdict, Verdicts};
 use hy_tree::{Tree, View};
 use std::alloc::{AllocError, Global};
 use std::marker::Brand;
 use std::sync::ledger::{Blank, Ledger};
+
+/// What so many whole groups of a log decide: the verdict at each position, all that committed in the order of the log,
+/// and the last row of each key, without the tombstones at or below the line.
+#[derive(Drop)]
+pub struct Folded {
+    pub groups: u32,
+    pub verdicts: Verdicts,
+    pub history: Rows,
+    pub rows: Rows,
+}
 
 // Adds what an entry wrote, where it committed.
 fn add_committed(
@@ -168,12 +178,8 @@ fn unpurged(alloc: Global, tree: &Tree, line: Pos) -> Result<Vec<Row>, AllocErro
     unpurged_counted::<Brand>(alloc, tree, line, Blank::new(1))
 }
 
-/// What the whole groups of a log decide: the verdicts, all that committed, and the rows after them.
-pub(crate) fn indexed_fold(
-    alloc: Global,
-    entries: &[Entry],
-    shape: Shape,
-) -> Result<Folded, AllocError>
+// What the whole groups of a log decide.
+fn folded_after(alloc: Global, entries: &[Entry], shape: Shape) -> Result<Folded, AllocError>
     requires good { IsGoodShape shape }
     requires lawful { IsLawful shape entries.now }
     ensures { IfOk result (λ folded. folded ≡ folded_after shape entries.now (length entries.now / shape.group)) }
@@ -210,4 +216,16 @@ pub(crate) fn indexed_fold(
         history: Items::from_vec(history),
         rows: Items::from_vec(unpurged(alloc, &last.now, shape.line(groups))?),
     })
+}
+
+/// The verdicts of a log's whole groups, and the rows after them: one entry after another is validated against what committed before
+/// it, without marks, premeld or stages. `AllocError` where memory runs out.
+pub fn plain_fold(alloc: Global, entries: &[Entry], shape: Shape) -> Result<Folded, AllocError>
+    requires good { IsGoodShape shape }
+    requires lawful { IsLawful shape entries.now }
+    ensures verdicts { IfOk result (λ folded. folded.verdicts ≡ verdicts shape entries.now (length entries.now)) }
+    ensures rows { IfOk result (λ folded. folded.rows ≡ rows shape entries.now (length entries.now)) }
+    ensures folded { IfOk result (λ folded. folded ≡ folded_after shape entries.now (length entries.now / shape.group)) }
+{
+    folded_after(alloc, entries, shape)
 }

@@ -1,7 +1,6 @@
 -- The script of a load keeps the ranges of a script.
 use Rattle.std.proofs.Common.{◌≡◌, ℕ, zero, suc, ◌+◌, ◌-◌, ◌*◌, ◌%◌, ◌<◌, ◌≤◌, ◌^◌, Bool, true, false, List, [], ◌∷◌, length, arith, refl}
 use Rattle.std.specs.Prelude.{if◌then◌else◌, All, ◌==◌, ◌&&◌, count_by, map, nat_le, nat_lt, IsTrue}
-use Rattle.std.proofs.lemmas.Bool.{leb-true, ltb-true}
 use Rattle.std.specs.List.{AllByRecursion, list_all, range_with_len}
 use Rattle.std.proofs.lemmas.List.Elements.{All-map, All-cons, All-nil}
 use Rattle.std.proofs.lemmas.List.FromFn.{length-map-range_with_len}
@@ -13,7 +12,7 @@ use Rattle.hy_base.specs.Entry.{is_told}
 use Rattle.hy_base.specs.declared.layout.Shape.{Shape}
 use Rattle.hy_base.specs.declared.workload.Mode.{Mode}
 use Rattle.hy_base.specs.Script.{AreTold, AskForGroups, IsAsOf, IsScript, IsClient, IsProgram, IsCommand, FitsTables, ClientFitsTables, command_count, home_of, mode_of}
-use Rattle.hy_base.specs.Tables.{is_table_key}
+use Rattle.hy_base.proofs.TableLemmas.{no_table_key}
 use Rattle.hy_gen.specs.declared.drawing.Draw.{Draw}
 use Rattle.hy_gen.specs.Draws.{draw_of}
 use Rattle.hy_gen.specs.Load.{value_numbered, commands_of, program_numbered, programs_of, program_count, client_of, shape_for, script_of}
@@ -24,15 +23,6 @@ pub record AreCommands (cs : List Command) : Type 0 where
   pub count : command_count cs ≤ 64
   pub commands : All IsCommand cs
   pub fits : All (FitsTables 0) cs
-
--- no key belongs to a table where there are none
-no_table_key : (key : ℕ) → is_table_key 0 key ≡ false
-no_table_key key = go (nat_le (2 ^ 56) key) (nat_lt key ((0 + 1) * 2 ^ 56)) refl refl
-  where
-    go : (a b : Bool) → nat_le (2 ^ 56) key ≡ a → nat_lt key ((0 + 1) * 2 ^ 56) ≡ b → (a && b) ≡ false
-    go false b e f = refl
-    go true false e f = refl
-    go true true e f = let low : 2 ^ 56 ≤ key = leb-true (2 ^ 56) key e in let high : key < (0 + 1) * 2 ^ 56 = ltb-true key ((0 + 1) * 2 ^ 56) f in absurd (omega (arith, low, high))
 
 two : (a b : Command) → command_count (a ∷ b ∷ []) ≡ 2 → IsCommand a → IsCommand b → FitsTables 0 a → FitsTables 0 b → AreCommands (a ∷ b ∷ [])
 two a b count first second one other = record {

@@ -11,6 +11,7 @@ use Rattle.hy_base.specs.Script.{Workload, IsScript}
 use Rattle.hy_base.specs.Shape.{IsGoodShape, whole_groups}
 use Rattle.hy_base.specs.Tables.{is_table_key}
 use Rattle.hy_base.proofs.GroupLemmas.{whole_gap, whole_is_whole}
+use Rattle.hy_base.proofs.TableLemmas.{no_table_key}
 use Rattle.hy_formats.specs.Checkpoint.{Checkpoint}
 use Rattle.hy_formats.specs.declared.header.Header.{Header}
 use Rattle.hy_formats.specs.declared.refusal.RestartError.TheVariants as restarting
@@ -64,22 +65,13 @@ room_of s r from at entries all waits good shape is within here same are some =
     let wait : waits ≡ drop (rolled_upto r - from) entries = are ∙ (λ i. drop (here i - from) (same i)) in
     subst (λ (x : Shape). rolled_upto r + x.group ≤ x.cap) (sym shape) (room_waits s (rolled_upto r) from entries good is within (subst (λ (l : List EntryKind). 0 < length l) wait some))
 
--- no key is one of no tables
-no_key : (key : ℕ) → is_table_key 0 key ≡ false
-no_key key = by (nat_le (2 ^ 56) key) (nat_lt key ((0 + 1) * 2 ^ 56)) refl refl
-  where
-    by : (a b : Bool) → nat_le (2 ^ 56) key ≡ a → nat_lt key ((0 + 1) * 2 ^ 56) ≡ b → (a && b) ≡ false
-    by false b e f = refl
-    by true false e f = refl
-    by true true e f = let low : 2 ^ 56 ≤ key = leb-true (2 ^ 56) key e in let high : key < (0 + 1) * 2 ^ 56 = ltb-true key ((0 + 1) * 2 ^ 56) f in absurd (omega (arith, low, high))
-
 never_found : (q : Pair → Bool) → ((p : Pair) → q p ≡ false) → (pairs : List Pair) → find q pairs ≡ None
 never_found q out [] = refl
 never_found q out (p ∷ ps) = rw (out p) (never_found q out ps)
 
 pub no_fault : (pairs : List Pair) → table_fault 0 pairs ≡ None
 no_fault pairs =
-    let out : (p : Pair) → (is_table_key 0 p.key && not (is_right pairs p)) ≡ false = λ p. ap (λ (b : Bool). b && not (is_right pairs p)) (no_key p.key) in
+    let out : (p : Pair) → (is_table_key 0 p.key && not (is_right pairs p)) ≡ false = λ p. ap (λ (b : Bool). b && not (is_right pairs p)) (no_table_key p.key) in
     ap (option_map (λ (p : Pair). p.key)) (never_found (λ p. is_table_key 0 p.key && not (is_right pairs p)) out pairs)
 
 -- so there is none to be seen without tables

@@ -4,7 +4,7 @@ ghost use Rattle.hy_base.specs.Limits.{IsClientNumber};
 ghost use Rattle.hy_base.specs.Log.{HasLawfulSnap};
 
 use hy_base::{Clash, Entry, Intention, Isolation, Items, Shape, Value, Verdict, Write};
-use hy_rules::{Folded, plain_fold};
+use hy_check::{Folded, plain_fold};
 use std::alloc::Global;
 use std::test::Fail;
 

@@ -12,7 +12,7 @@ use Rattle.hy_rules.proofs.Groups.{next_group, history-group, times_more, whole_
 use Rattle.hy_rules.proofs.Growth.{history_rise, up_to_earlier}
 use Rattle.hy_rules.proofs.Serial.{history_is_before}
 use Rattle.hy_check.proofs.Folding.{kept_next, base_next}
-use Rattle.hy_check.proofs.fold.indexed_fold.Goals as goal
+use Rattle.hy_check.proofs.fold.folded_after.Goals as goal
 
 pub loop-upto-preserved : goal.loop-upto-preserved
 loop-upto-preserved c =

@@ -2,7 +2,7 @@ use Rattle.std.proofs.Common.{◌≡◌, ◌≤◌, ◌*◌, ◌-◌, length}
 use Rattle.hy_base.specs.Shape.{base_groups, kept_groups}
 use Rattle.hy_base.specs.Rows.{newest}
 use Rattle.hy_rules.specs.Validation.{verdicts_after, history_after}
-use Rattle.hy_check.proofs.fold.indexed_fold.Given as goal
+use Rattle.hy_check.proofs.fold.folded_after.Given as goal
 
 -- the verdicts and the history of the groups so far, and the last rows after them and at the ends of windows
 abbrev pub invariant-loop-upto : goal.invariant-loop-upto
