@@ -1,5 +1,5 @@
 -- Reading the entries of a log one after the other.
-use Rattle.std.specs.Prelude.{◌≡◌, ℕ, ◌+◌, Bool, true, IsTrue, List, length, map, take, drop, ◌++◌, Result, Ok, Err, ⊤}
+use Rattle.std.specs.Prelude.{◌≡◌, ℕ, ◌+◌, Bool, IsTrue, List, length, map, take, drop, ◌++◌, Result, Ok, Err, ⊤}
 use Rattle.std.specs.List.{AllByRecursion}
 use Rattle.hy_base.specs.declared.layout.Shape.{Shape}
 use Rattle.hy_base.specs.declared.record.EntryKind.{EntryKind}
@@ -10,15 +10,15 @@ use Rattle.hy_entries.specs.LogEntries.{AreFoundIn}
 use Rattle.hy_entries.specs.declared.listing.Listing.{Listing}
 use Rattle.hy_entries.specs.declared.listing.Listing.TheVariants as listing
 
--- the bodies past a position spell entries, and these are they where they are kept
-abbrev pub IsRead : Bool → Shape → ℕ → List (List ℕ) → Bool → List EntryKind → Type 0
-IsRead tells s after bodies keeps entries = (all : List EntryKind) × AreFoundIn tells (record { shape = s; from = after }) bodies all × (keeps ≡ true → entries ≡ all)
+-- the bodies past a position spell entries, and just these were taken
+abbrev pub IsRead : Bool → Shape → ℕ → List (List ℕ) → (List EntryKind → Type 0) → Type 0
+IsRead tells s after bodies took = (entries : List EntryKind) × AreFoundIn tells (record { shape = s; from = after }) bodies entries × took entries
 
--- the entries past a position, or the first position that is refused
-abbrev pub IsListing : Bool → Shape → ℕ → List (List ℕ) → Bool → Listing → Type 0
-IsListing tells s after bodies keeps (listing.Entries entries) = IsRead tells s after bodies keeps entries.items
-IsListing tells s after bodies keeps (listing.Bad pos bad) = IsTrue tells → entries_past s after bodies ≡ Err (pos, bad)
-IsListing tells s after bodies keeps listing.Memory = ⊤
+-- the entries past a position were taken, or the first position is told that is refused
+abbrev pub IsListing : Bool → Shape → ℕ → List (List ℕ) → (List EntryKind → Type 0) → Listing → Type 0
+IsListing tells s after bodies took listing.Whole = IsRead tells s after bodies took
+IsListing tells s after bodies took (listing.Bad pos bad) = IsTrue tells → entries_past s after bodies ≡ Err (pos, bad)
+IsListing tells s after bodies took listing.Memory = ⊤
 
 -- entries that come first
 abbrev pub behind : {E : Type 0} → List EntryKind → Result (List EntryKind) E → Result (List EntryKind) E

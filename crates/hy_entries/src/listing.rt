@@ -1,5 +1,5 @@
 //! Reading the entries of a log one after the other.
-ghost use Rattle.std.specs.Prelude.{◌≡◌, ◌+◌, ◌-◌, ◌<◌, ◌≤◌, ◌++◌, ◌∷◌, [], ℕ, List, drop, length, true, IsTrue, IfOk, OnOk, Some};
+ghost use Rattle.std.specs.Prelude.{◌≡◌, ◌-◌, ◌<◌, ◌≤◌, ℕ, List, drop, length, IsTrue, IfOk, Some};
 ghost use Rattle.hy_base.specs.Lists.{nth};
 ghost use Rattle.hy_base.specs.Log.{HasLawfulSnap};
 ghost use Rattle.hy_formats.specs.LogFormat.{longest_record};
@@ -10,18 +10,19 @@ ghost use Rattle.hy_log.specs.View.{position_count};
 ghost use Rattle.hy_base.specs.Entry.{IsSoundEntry};
 ghost use Rattle.hy_entries.specs.Listing.{IsListing};
 
+use crate::receiving::Receiver;
 use hy_base::{Entry, Failed, Pos};
 use hy_codec::{DecodeError, decode_at};
 use hy_disk::Disk;
 use hy_formats::BadEntry;
 use hy_log::PageLog;
-use std::alloc::{AllocError, Global};
+use std::alloc::Global;
 
 /// What reading a log's entries comes to.
-#[derive(Drop)]
+#[derive(Clone, Copy)]
 pub enum Listing {
-    /// All of them, or none of them where they were only judged.
-    Entries(Vec<Entry>),
+    /// All of them were handed over.
+    Whole,
     /// The first position whose body is refused, and why.
     Bad(Pos, BadEntry),
     /// Out of memory.
@@ -59,43 +60,34 @@ fn read_entry<D: Disk>(
     })
 }
 
-// Puts an entry behind the others, where they are kept.
-fn keep(entries: &mut Vec<Entry>, entry: Entry, keeps: bool) -> Result<(), AllocError>
-    ensures { OnOk result (keeps ≡ true → entries.new.items ≡ entries.old.items ++ entry ∷ []) }
-{
-    if keeps && entries.push(entry).is_err() {
-        return Err(AllocError);
-    }
-    Ok(())
-}
-
-/// The entries of a log past a position, in order: each is judged, and kept or not.
-pub fn list_entries<D: Disk>(
+/// Hands over the entries of a log past a position, in order, up to the first body that is refused.
+pub fn hand_over<D: Disk, R: Receiver>(
     alloc: Global,
     log: &mut PageLog<D>,
     after: Pos,
-    keeps: bool,
+    receiver: &mut R,
     buffer: &mut [u8],
 ) -> Result<Listing, Failed>
     requires first { log.old.from ≤ after }
     requires last { after ≤ position_count log.old }
+    requires takes { R.takes receiver.old log.old.shape.version }
     requires space { length buffer.old ≡ longest_record }
-    ensures listing { IfOk result (IsListing D.tells log.old.shape after (drop (after - log.old.from) log.old.bodies) keeps) }
+    ensures listing { IfOk result (IsListing D.tells log.old.shape after (drop (after - log.old.from) log.old.bodies) (R.took receiver.old receiver.new after)) }
     ensures same { (log.new.shape ≡ log.old.shape) × (log.new.stopped ≡ log.old.stopped) × (log.new.batch ≡ log.old.batch) × (log.new.spare ≡ log.old.spare) × (log.new.from ≡ log.old.from) }
     ensures bodies { log.new.bodies ≡ log.old.bodies }
     ensures look { IsLook D.content D.moment D.left_since D.faults_of D.has_room log.old.disk log.new.disk result }
 {
-    let mut entries = Vec::new(alloc);
     for count in 0..log.len() - after {
-        match read_entry(alloc, log, after + count + 1, buffer)? {
+        let pos = after + count + 1;
+        match read_entry(alloc, log, pos, buffer)? {
             Ok(entry) => {
-                if keep(&mut entries, entry, keeps).is_err() {
+                if receiver.take(pos, entry).is_err() {
                     return Ok(Listing::Memory);
                 }
             }
-            Err(DecodeError::BadEntry(bad)) => return Ok(Listing::Bad(after + count + 1, bad)),
+            Err(DecodeError::BadEntry(bad)) => return Ok(Listing::Bad(pos, bad)),
             Err(DecodeError::Memory) => return Ok(Listing::Memory),
         }
     }
-    Ok(Listing::Entries(entries))
+    Ok(Listing::Whole)
 }

@@ -7,7 +7,8 @@ ghost use Rattle.hy_log.specs.View.{header_of, position_count};
 ghost use Rattle.hy_entries.specs.LogEntries.{AreFoundIn, OnlyLooks, RefusesEntry};
 ghost use Rattle.hy_entries.specs.Listing.{IsRead};
 
-use crate::listing::{Listing, list_entries};
+use crate::listing::{Listing, hand_over};
+use crate::receiving::{KeepsNone, Receiver};
 use hy_base::{Entry, Pos};
 use hy_disk::Disk;
 use hy_formats::{BadEntry, LONGEST_RECORD};
@@ -35,16 +36,21 @@ fn zeros(alloc: Global) -> Result<Vec<u8>, AllocError>
     vec![in alloc; 0; LONGEST_RECORD]
 }
 
-// The entries of a log past a position: each is judged, and kept or not.
-fn read_entries<D: Disk>(
+/// Hands over the entries of a log past a position at or past that where it was cut: what its bodies spell there, in order. Each
+/// of these bodies is read once.
+///
+/// `BadEntry`: the first position whose body is refused, and why. `Device`: the device failed. `Memory`: out of
+/// memory. The log is as it was, whatever comes of it; the receiver may have taken some of the entries.
+pub fn read_into<D: Disk, R: Receiver>(
     alloc: Global,
     log: &mut PageLog<D>,
     after: Pos,
-    keeps: bool,
-) -> Result<Vec<Entry>, EntriesError>
+    receiver: &mut R,
+) -> Result<(), EntriesError>
     requires first { log.old.from ≤ after }
     requires last { after ≤ position_count log.old }
-    ensures read { IfOk result (λ entries. IsRead D.tells log.old.shape after (drop (after - log.old.from) log.old.bodies) keeps entries.items) }
+    requires takes { R.takes receiver.old log.old.shape.version }
+    ensures read { IfOk result (λ _. IsRead D.tells log.old.shape after (drop (after - log.old.from) log.old.bodies) (R.took receiver.old receiver.new after)) }
     ensures refused { IsTrue D.tells → IfErr result (λ error. RefusesEntry error (entries_past log.old.shape after (drop (after - log.old.from) log.old.bodies))) }
     ensures same { (log.new.shape ≡ log.old.shape) × (log.new.stopped ≡ log.old.stopped) × (log.new.batch ≡ log.old.batch) × (log.new.spare ≡ log.old.spare) × (log.new.from ≡ log.old.from) }
     ensures bodies { log.new.bodies ≡ log.old.bodies }
@@ -53,19 +59,15 @@ fn read_entries<D: Disk>(
     let Ok(mut buffer) = zeros(alloc) else {
         return Err(EntriesError::Memory);
     };
-    match list_entries(alloc, log, after, keeps, &mut buffer) {
-        Ok(Listing::Entries(entries)) => Ok(entries),
+    match hand_over(alloc, log, after, receiver, &mut buffer) {
+        Ok(Listing::Whole) => Ok(()),
         Ok(Listing::Bad(pos, bad)) => Err(EntriesError::BadEntry { pos, bad }),
         Ok(Listing::Memory) => Err(EntriesError::Memory),
         Err(_) => Err(EntriesError::Device),
     }
 }
 
-/// The entries of a log past a position at or past that where it was cut: what its bodies spell there, in order. Each of
-/// these bodies is read once.
-///
-/// `BadEntry`: the first position whose body is refused, and why. `Device`: the device failed. `Memory`: out of
-/// memory. The log is as it was, whatever comes of it.
+/// The entries of a log past a position at or past that where it was cut, by [`read_into`].
 pub fn entries_past<D: Disk>(
     alloc: Global,
     log: &mut PageLog<D>,
@@ -79,7 +81,9 @@ pub fn entries_past<D: Disk>(
     ensures bodies { log.new.bodies ≡ log.old.bodies }
     ensures look { OnlyLooks D.content D.moment D.left_since D.faults_of D.has_room log.old.disk log.new.disk result }
 {
-    read_entries(alloc, log, after, true)
+    let mut entries = Vec::new(alloc);
+    read_into(alloc, log, after, &mut entries)?;
+    Ok(entries)
 }
 
 /// The entries of a log past the position where it was cut, by [`entries_past`].
@@ -91,7 +95,7 @@ pub fn entries_of<D: Disk>(alloc: Global, log: &mut PageLog<D>) -> Result<Vec<En
     ensures look { OnlyLooks D.content D.moment D.left_since D.faults_of D.has_room log.old.disk log.new.disk result }
 {
     let from = log.from();
-    read_entries(alloc, log, from, true)
+    entries_past(alloc, log, from)
 }
 
 /// Judges the entries of a log past the position where it was cut, and keeps none of them: it takes no memory for them.
@@ -105,6 +109,5 @@ pub fn judge_entries<D: Disk>(alloc: Global, log: &mut PageLog<D>) -> Result<(),
     ensures look { OnlyLooks D.content D.moment D.left_since D.faults_of D.has_room log.old.disk log.new.disk result }
 {
     let from = log.from();
-    let _none = read_entries(alloc, log, from, false)?;
-    Ok(())
+    read_into(alloc, log, from, &mut KeepsNone)
 }

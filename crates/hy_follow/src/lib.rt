@@ -15,4 +15,4 @@ mod shipping;
 
 pub use follower::{FeedError, Follower};
 pub use laws::{a_follower_decides, a_stream_has_one_follower, a_stream_is_followed};
-pub use shipping::write_stream;
+pub use shipping::{push_frame, push_head, write_stream};

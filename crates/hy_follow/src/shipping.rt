@@ -10,7 +10,8 @@ use hy_base::{Entry, Shape};
 use hy_codec::{encode, push_u32};
 use std::alloc::{AllocError, Global};
 
-fn push_head(out: &mut Vec<u8>, shape: Shape) -> Result<(), AllocError>
+/// Adds what the stream of a log of this shape begins with. Where memory runs out, a part of it may have been added.
+pub fn push_head(out: &mut Vec<u8>, shape: Shape) -> Result<(), AllocError>
     ensures { OnOk result (out.new.items ≡ out.old.items ++ stream_head shape) }
 {
     out.extend_from_slice(&MAGIC)?;
@@ -19,7 +20,8 @@ fn push_head(out: &mut Vec<u8>, shape: Shape) -> Result<(), AllocError>
     push_u32(out, shape.horizon_told())
 }
 
-fn push_frame(
+/// Adds the frame of an entry to the stream of a log of this version. Where memory runs out, a part of it may have been added.
+pub fn push_frame(
     alloc: Global,
     out: &mut Vec<u8>,
     entry: &Entry,

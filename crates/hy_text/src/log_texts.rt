@@ -79,7 +79,9 @@ fn put_transaction(
     Ok(())
 }
 
-fn put_entry(out: &mut Vec<u8>, version: u8, pos: u64, entry: &Entry) -> Result<(), AllocError>
+/// Adds the line of the entry at a position to the dump of a log of this version. Where memory runs out, a part of it may have been
+/// added.
+pub fn put_entry(out: &mut Vec<u8>, version: u8, pos: u64, entry: &Entry) -> Result<(), AllocError>
     ensures { OnOk result (out.new.items ≡ out.old.items ++ entry_text version (pos, entry.now)) }
 {
     match entry.kind() {
@@ -133,8 +135,9 @@ fn put_from(out: &mut Vec<u8>, from: Pos) -> Result<(), AllocError>
     put_words(out, &words)
 }
 
-// What the log's header tells, and how many entries the log has.
-fn put_header(out: &mut Vec<u8>, header: Header, count: usize) -> Result<(), AllocError>
+/// Adds the first line of a log's dump: what its header tells, and how many entries it has. Where memory runs out, a part of it may
+/// have been added.
+pub fn put_header(out: &mut Vec<u8>, header: Header, count: usize) -> Result<(), AllocError>
     ensures { OnOk result (out.new.items ≡ out.old.items ++ line (codes "log" ∷ shape_words header.shape ++ (from_words header.from ++ codes "entries" ∷ decimal count ∷ []))) }
 {
     let shape = header.shape;

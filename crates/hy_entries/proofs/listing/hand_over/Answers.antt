@@ -10,8 +10,8 @@ use Rattle.hy_codec.specs.EntryReading.{Decodes}
 use Rattle.hy_log.proofs.Looking.{looks, look_ok, look_nothing}
 use Rattle.hy_base.specs.Entry.{IsSoundEntry}
 use Rattle.hy_entries.proofs.Lists.{body_past, next_body, nothing_listed, one_more, refused_next, log_listed}
-use Rattle.hy_entries.proofs.AfterLooks.{look_answers, look_fails}
-use Rattle.hy_entries.proofs.listing.list_entries.Goals as goal
+use Rattle.hy_entries.proofs.AfterLooks.{look_answers, look_fails, one_taken}
+use Rattle.hy_entries.proofs.listing.hand_over.Goals as goal
 
 pub returns-in-Err-BadEntry-clause-listing : goal.returns-in-Err-BadEntry-clause-listing
 returns-in-Err-BadEntry-clause-listing g c =
@@ -46,11 +46,13 @@ loop-count-preserved g c =
     (body_past c.args.log.now.bodies c.loop-count.log.bodies skipped c.loop-count.count (spelling c.loop-count.log.shape.version c.in-Ok.entry) inv.6
     (subst (λ (n : ℕ). nth c.loop-count.log.bodies n ≡ Some (spelling c.loop-count.log.shape.version c.in-Ok.entry)) place
     (subst (λ r. IfOk r (λ e. nth c.loop-count.log.bodies (pos - c.loop-count.log.from) ≡ Some (spelling c.loop-count.log.shape.version e))) c.in-Ok.is (c.in_ok-entry.ensures.spelled told)))) in
+    let taken = one_taken g.R.Receiver.takes g.R.Receiver.took c.take.result c.args.receiver.now c.loop-count.receiver c.take.new.self s.version after pos inv.0.0 c.in-Ok.entry
+    c.take.ensures.takes c.take.ensures.taken (sym c.is_err.ensures.value ∙ c.if-is_err.false) inv.11 inv.0.2 (omega (arith, inv.0.1.counts)) in
     let same = c.in_ok-entry.ensures.same in (
       (
         inv.0.0 ++ c.in-Ok.entry ∷ [],
         one_more g.D.Disk.tells s after (drop skipped c.args.log.now.bodies) inv.0.0 c.loop-count.count c.in-Ok.entry next.0 inv.0.1 next.1 read lawful sound spelled,
-        λ keeps. search rules,
+        taken.0,
       ),
       search rules,
       inv.2,
@@ -62,12 +64,13 @@ loop-count-preserved g c =
       look_ok tt (looks inv.8 c.in_ok-entry.ensures.look),
       same.4 ∙ inv.9,
       inv.10,
+      taken.1,
     )
 
 pub loop-count-init : goal.loop-count-init
 loop-count-init g c =
     let rest = drop (c.args.after - c.args.log.now.from) c.args.log.now.bodies in (
-      ([], nothing_listed g.D.Disk.tells c.args.log.now.shape c.args.after rest, λ keeps. c.new-entries.ensures.items),
+      ([], nothing_listed g.D.Disk.tells c.args.log.now.shape c.args.after rest, g.met.R.Receiver.took_none c.args.receiver.now c.args.after),
       c.requires.space,
       omega (arith, c.len.ensures.len, c.requires.last),
       refl,
@@ -78,6 +81,7 @@ loop-count-init g c =
       look_nothing g.D.Disk.content g.D.Disk.moment g.D.Disk.left_since g.D.Disk.faults_of g.D.Disk.has_room c.args.log.now.disk (g.met.D.Disk.only_now c.args.log.now.disk),
       refl,
       omega (arith, c.len.ensures.len, c.len.ensures.most),
+      c.requires.takes,
     )
 
 pub returns-in_err-entry-clause-listing : goal.returns-in_err-entry-clause-listing
