@@ -4,7 +4,6 @@ ghost use Rattle.std.specs.List.{AllByRecursion};
 ghost use Rattle.hy_base.specs.Entry.{FitsVersion};
 ghost use Rattle.hy_base.specs.Log.{IsLawful};
 ghost use Rattle.hy_base.specs.Shape.{IsGoodShape, whole_groups};
-ghost use Rattle.hy_base.specs.Limits.{IsThreadCount};
 ghost use Rattle.hy_rules.specs.Moves.{is_kept};
 ghost use Rattle.hy_memlog.specs.Pages.{IsStop};
 ghost use Rattle.hy_core.specs.CoreParts.{IsHolding, AreRestarted, HasPlaces, ClientStateFits, HasRestarted, abandoned_client_state, abandoned_told, kept_by, struck, broken, log_held};
@@ -13,7 +12,7 @@ use crate::earlier::clear_all;
 use crate::parts::{ClientState, EndedProgram, Parts, roller_of};
 use hy_base::{Answers, ArmedStop, Entry, Phase, Pos, Script, Session, Shape, Shared, share_all};
 use hy_codec::encode;
-use hy_pipe::{Gate, roll};
+use hy_pipe::{Gate, Runtime, roll};
 use hy_roller::Roller;
 use std::alloc::{AllocError, Global};
 use std::thread::Threads;
@@ -67,18 +66,14 @@ fn shares_with(
 // The boards after a restart on the log and the entry that the stop keeps: the first server's roller goes on from its
 // board to the end of the last whole group, and all servers share it.
 fn restarted<R: Threads + Sync, G: Gate + Sync>(
-    rt: &R,
-    alloc: Global,
+    runtime: &Runtime<R, G>,
     script: &Script,
     core: &Parts,
     entry: &Shared<Entry>,
     stop: ArmedStop,
-    threads: usize,
-    gate: &G,
 ) -> Result<Vec<Roller>, AllocError>
     requires holding { IsHolding script.now (log_held core.now) }
     requires lawful { IsLawful script.now.shape ((log_held core.now).log ++ kept_by stop entry.now) }
-    requires threads { IsThreadCount threads }
     ensures { IfOk result (λ rollers. AreRestarted script.now ((log_held core.now).log ++ kept_by stop entry.now) rollers.items) }
 {
     let shape = script.shape();
@@ -86,45 +81,34 @@ fn restarted<R: Threads + Sync, G: Gate + Sync>(
         unreachable!();
     };
     let from = roller.at();
-    let entries = shares_with(alloc, past(&core.log, from), entry, stop)?;
+    let entries = shares_with(runtime.alloc, past(&core.log, from), entry, stop)?;
     let upto = whole(shape, from + entries.len() as Pos);
-    let rolled = roll(
-        roller,
-        rt,
-        alloc,
-        first(&entries, upto - from),
-        threads,
-        gate,
-    )?;
-    rolled.share_times(alloc, script.servers())
+    let rolled = roll(runtime, roller, first(&entries, upto - from))?;
+    rolled.share_times(runtime.alloc, script.servers())
 }
 
 /// A stop strikes in the append of an entry: it is on the device exactly where the stop keeps it. Answers the boards on
 /// what is left. Out of memory, all is as before, or the log on the device is broken.
 pub(crate) fn strike<R: Threads + Sync, G: Gate + Sync>(
-    rt: &R,
-    alloc: Global,
+    runtime: &Runtime<R, G>,
     script: &Script,
     core: &mut Parts,
     entry: &Shared<Entry>,
     stop: ArmedStop,
-    threads: usize,
-    gate: &G,
 ) -> Result<Vec<Roller>, AllocError>
     requires holding { IsHolding script.now (log_held core.old) }
     requires room_left { HasPlaces (log_held core.old).pages 1 }
     requires stop { IsStop stop }
     requires lawful { IsLawful script.now.shape ((log_held core.old).log ++ kept_by stop entry.now) }
     requires fits { FitsVersion (log_held core.old).pages.shape.version entry.now }
-    requires threads { IsThreadCount threads }
     ensures ok { OnOk result (log_held core.new ≡ struck stop entry.now (log_held core.old)) }
     ensures boards { IfOk result (λ rollers. AreRestarted script.now ((log_held core.old).log ++ kept_by stop entry.now) rollers.items) }
     ensures places { (core.new.log ≡ core.old.log) × (core.new.told ≡ core.old.told) }
     ensures err { OnErr result ((log_held core.new ≡ log_held core.old) ⊎ (log_held core.new ≡ broken (log_held core.old))) }
 {
-    let body = encode(alloc, entry.get(), core.pages.shape().version)?;
-    let rollers = restarted(rt, alloc, script, core, entry, stop, threads, gate)?;
-    core.pages.stop(alloc, &body, stop)?;
+    let body = encode(runtime.alloc, entry.get(), core.pages.shape().version)?;
+    let rollers = restarted(runtime, script, core, entry, stop)?;
+    core.pages.stop(runtime.alloc, &body, stop)?;
     Ok(rollers)
 }
 

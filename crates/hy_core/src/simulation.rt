@@ -1,6 +1,5 @@
 //! The core.
 ghost use Rattle.std.specs.Prelude.{◌≡◌, ◌⊎◌, ◌/◌, ◌%◌, ℕ, length, true, false, None, Err, IfOk, OnOk, OnErr, IsErrOf};
-ghost use Rattle.hy_base.specs.Limits.{IsThreadCount};
 ghost use Rattle.hy_rules.specs.Moves.{board_of, is_declared};
 ghost use Rattle.hy_rules.specs.Summary.{reads_in};
 ghost use Rattle.hy_base.specs.Rows.{Agrees};
@@ -15,7 +14,7 @@ use crate::parts::{Parts, board_at, may_happen, open, roller_of};
 use crate::replies::{all_replies, reads_in};
 use crate::tail::next_event;
 use hy_base::{Entry, Event, Items, Pos, Replies, Script, Shared, Verdicts};
-use hy_pipe::Gate;
+use hy_pipe::{Gate, Runtime};
 use hy_tree::Tree;
 use std::alloc::{AllocError, Global};
 use std::marker::Model;
@@ -102,13 +101,9 @@ impl Core {
     /// before too; but where a stop had struck it is broken: its state stays, and every further event is answered by `Memory`.
     pub fn step<R: Threads + Sync, G: Gate + Sync>(
         &mut self,
-        rt: &R,
-        alloc: Global,
+        runtime: &Runtime<R, G>,
         event: Event,
-        threads: usize,
-        gate: &G,
     ) -> Result<(), StepError>
-        requires threads { IsThreadCount threads }
         ensures ok { OnOk result (Advances self.old event self.new) }
         ensures refused { result ≡ Err StepError.NotEnabled → step self.old.script self.old.state event ≡ None }
         ensures disabled { self.old.broken ≡ false → step self.old.script self.old.state event ≡ None → result ≡ Err StepError.NotEnabled }
@@ -122,15 +117,7 @@ impl Core {
         if !may_happen(&self.script, &self.parts, event) {
             return Err(StepError::NotEnabled);
         }
-        perform(
-            rt,
-            alloc,
-            &self.script,
-            &mut self.parts,
-            event,
-            threads,
-            gate,
-        )?;
+        perform(runtime, &self.script, &mut self.parts, event)?;
         Ok(())
     }
 
@@ -150,13 +137,9 @@ impl Core {
     /// find gave just the first rows with its attribute (`tables`).
     pub fn run<R: Threads + Sync, G: Gate + Sync>(
         &mut self,
-        rt: &R,
-        alloc: Global,
+        runtime: &Runtime<R, G>,
         events: &[Event],
-        threads: usize,
-        gate: &G,
     ) -> Result<(), RunError>
-        requires threads { IsThreadCount threads }
         ensures ok { OnOk result (Follows self.old events.now self.new) }
         ensures refused { (index : ℕ) → IsErrOf result (RunError.NotEnabled index) → IsRefusedAt self.old events.now self.new index }
         ensures memory { IsErrOf result RunError.Memory → FollowsSome self.old events.now self.new }
@@ -164,7 +147,7 @@ impl Core {
     {
         let _ = self.script();
         for at in 0..events.len() {
-            match self.step(rt, alloc, events[at], threads, gate) {
+            match self.step(runtime, events[at]) {
                 Ok(()) => {}
                 Err(StepError::NotEnabled) => return Err(RunError::NotEnabled { index: at }),
                 Err(StepError::Memory) => return Err(RunError::Memory),
@@ -178,19 +161,15 @@ impl Core {
     /// `AllocError`: out of memory. The core has moved by the events that were added, and may be broken.
     pub fn finish<R: Threads + Sync, G: Gate + Sync>(
         &mut self,
-        rt: &R,
-        alloc: Global,
+        runtime: &Runtime<R, G>,
         events: &mut Vec<Event>,
-        threads: usize,
-        gate: &G,
     ) -> Result<(), AllocError>
-        requires threads { IsThreadCount threads }
         ensures ok { OnOk result (Completes self.old events.old.items events.new.items self.new) }
         ensures err { OnErr result (Extends self.old events.old.items events.new.items self.new) }
     {
         while let Some(event) = self.next() {
             events.reserve(1)?;
-            match self.step(rt, alloc, event, threads, gate) {
+            match self.step(runtime, event) {
                 Ok(()) => events.push_reserved(event),
                 Err(StepError::NotEnabled) => unreachable!(),
                 Err(StepError::Memory) => return Err(AllocError),

@@ -2,7 +2,6 @@
 ghost use Rattle.std.specs.Prelude.{◌≡◌, ◌+◌, ◌%◌, ◌^◌, ◌<◌, ◌≤◌, ◌∷◌, length, true, Some, IfOk, IsSome, OnOk, OnErr};
 ghost use Rattle.std.specs.Option.{option_copied};
 ghost use Rattle.hy_base.specs.declared.workload.Event.TheVariants.{Begin};
-ghost use Rattle.hy_base.specs.Limits.{IsThreadCount};
 ghost use Rattle.hy_base.specs.Lists.{nth, change_nth};
 ghost use Rattle.hy_base.specs.Shape.{IsWithin};
 ghost use Rattle.hy_rules.specs.History.{pairs_of};
@@ -18,7 +17,7 @@ use crate::parts::{
 };
 use crate::running::execute;
 use hy_base::{Answers, Client, Phase, Pos, Program, Script, Session};
-use hy_pipe::{Gate, roll};
+use hy_pipe::{Gate, Runtime, roll};
 use hy_roller::{ProgramEnd, Roller};
 use hy_tree::Tree;
 use std::alloc::{AllocError, Global};
@@ -72,21 +71,17 @@ fn newest_upto<'a>(board: &'a Roller, earlier: &'a Earlier, pos: Pos) -> Option<
 // The rows that are live at a snapshot, from the newest roller of a server that hasn't passed it. What that one has not rolled
 // yet is rolled here; the boards stay as they are.
 fn tree_at<R: Threads + Sync, G: Gate + Sync>(
-    rt: &R,
-    alloc: Global,
+    runtime: &Runtime<R, G>,
     script: &Script,
     core: &Parts,
     server: u8,
     snap: Pos,
-    threads: usize,
-    gate: &G,
 ) -> Result<Tree, AllocError>
     requires holding { IsHolding script.now (log_held core.now) }
     requires server { IsWithin 1 script.now.servers server }
     requires kept { IsSome (newest_upto snap (kept_rollers (log_held core.now) server)) }
     requires within { snap ≤ length (log_held core.now).log }
     requires whole { snap % script.now.shape.group ≡ 0 }
-    requires threads { IsThreadCount threads }
     ensures { IfOk result (λ tree. pairs_of tree ≡ live script.now.shape (log_held core.now).log snap) }
 {
     // The shape of a script is good.
@@ -105,7 +100,7 @@ fn tree_at<R: Threads + Sync, G: Gate + Sync>(
         return roller.tree().share();
     }
     let entries = between(&core.log, from, snap);
-    let rolled = roll(roller, rt, alloc, entries, threads, gate)?;
+    let rolled = roll(runtime, roller, entries)?;
     rolled.tree().share()
 }
 
@@ -135,17 +130,13 @@ fn turn_away(alloc: Global, core: &mut Parts, client: u8, end: ProgramEnd) -> Re
 /// A client begins its next program: on its server's board, or as of the position that the program asks for. Where the server
 /// keeps no board at or below that one, or hasn't published so far, the program has ended.
 pub(crate) fn begin<R: Threads + Sync, G: Gate + Sync>(
-    rt: &R,
-    alloc: Global,
+    runtime: &Runtime<R, G>,
     script: &Script,
     core: &mut Parts,
     client: u8,
-    threads: usize,
-    gate: &G,
 ) -> Result<(), AllocError>
     requires holding { IsHolding script.now (log_held core.old) }
     requires may { may_happen script.now (state_in_course (log_held core.old)) (Begin client) ≡ true }
-    requires threads { IsThreadCount threads }
     ensures ok { OnOk result (StepsTo script.now (log_held core.old) (log_held core.new) (Begin client)) }
     ensures err { OnErr result (log_held core.new ≡ log_held core.old) }
 {
@@ -162,10 +153,10 @@ pub(crate) fn begin<R: Threads + Sync, G: Gate + Sync>(
     let server = own.server;
     let snap = match start_at(core, server, program.as_of) {
         Ok(snap) => snap,
-        Err(end) => return turn_away(alloc, core, client, end),
+        Err(end) => return turn_away(runtime.alloc, core, client, end),
     };
-    let tree = tree_at(rt, alloc, script, core, server, snap, threads, gate)?;
-    let running = execute(alloc, program, tree, snap, server, client)?;
+    let tree = tree_at(runtime, script, core, server, snap)?;
+    let running = execute(runtime.alloc, program, tree, snap, server, client)?;
     let session = Session {
         next,
         phase: Phase::Begun { snap },

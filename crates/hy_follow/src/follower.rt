@@ -1,6 +1,5 @@
 //! The follower.
 ghost use Rattle.std.specs.Prelude.{◌≡◌, ◌+◌, ◌++◌, List, ℕ, [], length, IfOk, OnOk, None, Some, Err};
-ghost use Rattle.hy_base.specs.Limits.{IsThreadCount};
 ghost use Rattle.hy_formats.specs.declared.damage.BadFrame.{BadFrame};
 ghost use Rattle.hy_formats.specs.StreamFormat.{came, streamed, unless_bad};
 ghost use Rattle.hy_rules.specs.History.{live_rows, pairs_of};
@@ -11,7 +10,7 @@ ghost use Rattle.hy_follow.specs.declared.follower.FeedError.TheVariants as feed
 use crate::intake::Intake;
 use hy_base::{Items, Pos, Shape, Verdicts};
 use hy_formats::BadFrame;
-use hy_pipe::Gate;
+use hy_pipe::{Gate, Runtime};
 use hy_roller::Told;
 use hy_tree::Tree;
 use std::alloc::{AllocError, Global};
@@ -61,20 +60,16 @@ impl Model for Follower {
 // What is held after these bytes, made aside.
 fn fed<R: Threads + Sync, G: Gate + Sync>(
     held: &Intake,
-    rt: &R,
-    alloc: Global,
+    runtime: &Runtime<R, G>,
     piece: &[u8],
-    threads: usize,
-    gate: &G,
 ) -> Result<Intake, AllocError>
     requires ready { IsJudged held.now }
-    requires threads { IsThreadCount threads }
     ensures ready { IfOk result IsJudged }
     ensures taken { IfOk result (λ next. (bytes : List ℕ) → HasFollowed bytes held.now → HasFollowed (bytes ++ piece.now) next) }
 {
-    let mut next = held.share(alloc)?;
-    next.take(rt, alloc, piece, threads, gate)?;
-    next.roll_whole(rt, alloc, threads, gate)?;
+    let mut next = held.share(runtime.alloc)?;
+    next.take(runtime, piece)?;
+    next.roll_whole(runtime)?;
     Ok(next)
 }
 
@@ -90,21 +85,17 @@ impl Follower {
         }
     }
 
-    /// Takes the next bytes of a stream, and rolls the whole groups of the entries that they complete, by up to `threads`
-    /// threads; each group enters the gate once.
+    /// Takes the next bytes of a stream, and rolls the whole groups of the entries that they complete; each group enters the
+    /// gate once.
     ///
     /// `BadFrame`: the first header or frame that is refused, by its place in the stream, once the bytes by which it is refused
     /// are there; then each later call answers the same, and the follower keeps what it held before that place. `Memory`: out
     /// of memory; the follower is as it was.
     pub fn feed<R: Threads + Sync, G: Gate + Sync>(
         &mut self,
-        rt: &R,
-        alloc: Global,
+        runtime: &Runtime<R, G>,
         piece: &[u8],
-        threads: usize,
-        gate: &G,
     ) -> Result<(), FeedError>
-        requires threads { IsThreadCount threads }
         ensures taken { (bytes : List ℕ) → HasFollowed bytes self.old → (result ≡ Err feeding.Memory → ⊥) → HasFollowed (bytes ++ piece.now) self.new }
         ensures fine { OnOk result (self.new.bad ≡ None) }
         ensures refused { (bad : BadFrame) → result ≡ Err (feeding.BadFrame bad) → self.new.bad ≡ Some bad }
@@ -118,7 +109,7 @@ impl Follower {
             self.held.keep(piece)?;
             return Ok(());
         }
-        self.held = fed(&self.held, rt, alloc, piece, threads, gate)?;
+        self.held = fed(&self.held, runtime, piece)?;
         match self.held.bad() {
             None => Ok(()),
             Some(bad) => Err(FeedError::BadFrame(bad)),

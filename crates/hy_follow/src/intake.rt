@@ -1,6 +1,5 @@
 //! What a follower holds, and how it takes bytes.
 ghost use Rattle.std.specs.Prelude.{◌≡◌, ◌+◌, ◌<◌, ◌≤◌, [], ◌++◌, length, take, drop, nat_lt, IfOk, OnOk, OnErr, None};
-ghost use Rattle.hy_base.specs.Limits.{IsThreadCount};
 ghost use Rattle.hy_base.specs.Shape.{IsGoodShape, whole_groups};
 ghost use Rattle.hy_formats.specs.EntryFormat.{decoded_at};
 ghost use Rattle.hy_formats.specs.StreamFormat.{head_judged, length_fault, told_length};
@@ -12,7 +11,7 @@ use crate::heading::judge_head;
 use hy_base::{Entry, Pos, Shape, Shared, both, share_all};
 use hy_codec::{DecodeError, decode_at};
 use hy_formats::{BadEntry, BadFrame, Damage};
-use hy_pipe::{Gate, roll, whole_groups};
+use hy_pipe::{Gate, Runtime, roll, whole_groups};
 use hy_roller::Roller;
 use std::alloc::{AllocError, Global};
 use std::marker::Model;
@@ -305,21 +304,17 @@ impl Intake {
     /// Rolls the whole groups of its entries.
     pub fn roll_whole<R: Threads + Sync, G: Gate + Sync>(
         &mut self,
-        rt: &R,
-        alloc: Global,
-        threads: usize,
-        gate: &G,
+        runtime: &Runtime<R, G>,
     ) -> Result<(), AllocError>
         requires sized { IsSized self.old }
-        requires threads { IsThreadCount threads }
         ensures { OnOk result (self.new ≡ after_rolling self.old) }
     {
         let Some(roller) = &self.roller else {
             return Ok(());
         };
         let (whole, rest) = split_whole(roller.shape(), &self.rest);
-        let roller = roll(roller, rt, alloc, whole, threads, gate)?;
-        let rest = share_all(alloc, rest)?;
+        let roller = roll(runtime, roller, whole)?;
+        let rest = share_all(runtime.alloc, rest)?;
         self.roller = Some(roller);
         self.rest = rest;
         Ok(())
@@ -328,18 +323,14 @@ impl Intake {
     // Rolls the whole groups of its entries, where these may be many.
     fn roll_if_many<R: Threads + Sync, G: Gate + Sync>(
         &mut self,
-        rt: &R,
-        alloc: Global,
-        threads: usize,
-        gate: &G,
+        runtime: &Runtime<R, G>,
     ) -> Result<(), AllocError>
         requires ready { IsJudged self.old }
-        requires threads { IsThreadCount threads }
         ensures ready { OnOk result (IsJudged self.new) }
         ensures same { OnOk result (TakesAll self.old [] self.new) }
     {
         if self.rest.len() >= WINDOW_ENTRIES {
-            return self.roll_whole(rt, alloc, threads, gate);
+            return self.roll_whole(runtime);
         }
         Ok(())
     }
@@ -347,21 +338,17 @@ impl Intake {
     /// Takes these bytes, up to the first header or frame that is refused.
     pub fn take<R: Threads + Sync, G: Gate + Sync>(
         &mut self,
-        rt: &R,
-        alloc: Global,
+        runtime: &Runtime<R, G>,
         bytes: &[u8],
-        threads: usize,
-        gate: &G,
     ) -> Result<(), AllocError>
         requires ready { IsJudged self.old }
-        requires threads { IsThreadCount threads }
         ensures ready { OnOk result (IsJudged self.new) }
         ensures taken { OnOk result (TakesAll self.old bytes.now self.new) }
     {
         let mut left = bytes;
         while self.bad.is_none() && !left.is_empty() {
-            left = self.take_some(alloc, left)?;
-            self.roll_if_many(rt, alloc, threads, gate)?;
+            left = self.take_some(runtime.alloc, left)?;
+            self.roll_if_many(runtime)?;
         }
         Ok(())
     }
