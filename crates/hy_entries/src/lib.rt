@@ -10,5 +10,7 @@ mod listing;
 mod reading;
 mod receiving;
 
-pub use reading::{EntriesError, entries_of, entries_past, judge_entries, read_into};
+pub use reading::{
+    EntriesError, entries_of, entries_past, judge_entries, read_into, shared_entries_of,
+};
 pub use receiving::{KeepsNone, Receiver};

@@ -8,8 +8,8 @@ ghost use Rattle.hy_entries.specs.LogEntries.{AreFoundIn, OnlyLooks, RefusesEntr
 ghost use Rattle.hy_entries.specs.Listing.{IsRead};
 
 use crate::listing::{Listing, hand_over};
-use crate::receiving::{KeepsNone, Receiver};
-use hy_base::{Entry, Pos};
+use crate::receiving::{KeepsNone, Receiver, Shares};
+use hy_base::{Entry, Pos, Shared};
 use hy_disk::Disk;
 use hy_formats::{BadEntry, LONGEST_RECORD};
 use hy_log::PageLog;
@@ -96,6 +96,26 @@ pub fn entries_of<D: Disk>(alloc: Global, log: &mut PageLog<D>) -> Result<Vec<En
 {
     let from = log.from();
     entries_past(alloc, log, from)
+}
+
+/// The same entries as [`entries_of`], each to be shared.
+pub fn shared_entries_of<D: Disk>(
+    alloc: Global,
+    log: &mut PageLog<D>,
+) -> Result<Vec<Shared<Entry>>, EntriesError>
+    ensures read { IfOk result (λ entries. AreFoundIn D.tells (header_of log.old) log.old.bodies entries.items) }
+    ensures refused { IsTrue D.tells → IfErr result (λ error. RefusesEntry error (entries_past log.old.shape log.old.from log.old.bodies)) }
+    ensures same { (log.new.shape ≡ log.old.shape) × (log.new.stopped ≡ log.old.stopped) × (log.new.batch ≡ log.old.batch) × (log.new.spare ≡ log.old.spare) × (log.new.from ≡ log.old.from) }
+    ensures bodies { log.new.bodies ≡ log.old.bodies }
+    ensures look { OnlyLooks D.content D.moment D.left_since D.faults_of D.has_room log.old.disk log.new.disk result }
+{
+    let from = log.from();
+    let mut shares = Shares {
+        alloc,
+        entries: Vec::new(alloc),
+    };
+    read_into(alloc, log, from, &mut shares)?;
+    Ok(shares.entries)
 }
 
 /// Judges the entries of a log past the position where it was cut, and keeps none of them: it takes no memory for them.

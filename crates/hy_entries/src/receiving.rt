@@ -3,8 +3,8 @@ ghost use Rattle.std.specs.Prelude.{◌≡◌, ◌+◌, ℕ, List, [], ◌∷◌
 ghost use Rattle.hy_base.specs.declared.record.EntryKind.{EntryKind};
 ghost use Rattle.hy_base.specs.Entry.{IsSoundEntry};
 
-use hy_base::{Entry, Pos};
-use std::alloc::AllocError;
+use hy_base::{Entry, Pos, Shared};
+use std::alloc::{AllocError, Global};
 
 /// What the entries of a log are handed to, one after another.
 pub trait Receiver {
@@ -38,6 +38,29 @@ impl Receiver for Vec<Entry> {
         if self.push(entry).is_err() {
             return Err(AllocError);
         }
+        Ok(())
+    }
+}
+
+/// Keeps all entries, each to be shared.
+#[derive(Drop)]
+pub(crate) struct Shares {
+    pub(crate) alloc: Global,
+    pub(crate) entries: Vec<Shared<Entry>>,
+}
+
+impl Receiver for Shares {
+    ghost use Rattle.std.proofs.Common.{sym, append-nil};
+
+    ghost takes = { λ _ _. ⊤ };
+
+    ghost took = { λ start now from entries. now.entries.items ≡ start.entries.items ++ entries };
+
+    ghost took_none = { λ shares from. sym (append-nil shares.entries.items) };
+
+    fn take(&mut self, _pos: Pos, entry: Entry) -> Result<(), AllocError> {
+        self.entries.reserve(1)?;
+        self.entries.push_reserved(Shared::new(self.alloc, entry)?);
         Ok(())
     }
 }

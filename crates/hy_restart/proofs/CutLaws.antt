@@ -12,7 +12,7 @@ use Rattle.hy_base.specs.declared.record.Verdict.{Verdict}
 use Rattle.hy_base.specs.Log.{HaveLawfulSnaps, IsLawful}
 use Rattle.hy_base.specs.Shape.{IsGoodShape, base_groups, whole_groups}
 use Rattle.hy_base.proofs.GroupLemmas.{whole_count}
-use Rattle.hy_rules.specs.Validation.{verdicts, verdicts_after, rows_after}
+use Rattle.hy_rules.specs.Validation.{verdicts_after, rows_after}
 use Rattle.hy_rules.specs.History.{pairs_of}
 use Rattle.hy_rules.specs.Runs.{verdict_at}
 use Rattle.hy_rules.specs.SavedPoints.{StandsIfAny}

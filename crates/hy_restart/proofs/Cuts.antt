@@ -12,7 +12,7 @@ use Rattle.hy_base.specs.Rows.{applied, purged}
 use Rattle.hy_base.specs.Shape.{IsGoodShape, base_groups, line_after, whole_groups}
 use Rattle.hy_base.specs.Verdicts.{is_commit}
 use Rattle.hy_base.proofs.GroupLemmas.{whole_below, whole_count}
-use Rattle.hy_rules.specs.Validation.{verdicts, verdicts_after, rows, rows_after}
+use Rattle.hy_rules.specs.Validation.{verdicts_after, rows_after}
 use Rattle.hy_rules.specs.History.{commits_past, flagged_history}
 use Rattle.hy_rules.specs.RuleLaws.{AreSame}
 use Rattle.hy_rules.specs.SavedPoints.{IsPointOf, PointStands}
