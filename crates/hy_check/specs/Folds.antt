@@ -2,7 +2,6 @@
 use Rattle.std.specs.Prelude.{ℕ, List}
 use Rattle.hy_base.specs.declared.layout.Shape.{Shape}
 use Rattle.hy_base.specs.declared.record.EntryKind.{EntryKind}
-use Rattle.hy_base.specs.declared.record.Row.{Row}
 use Rattle.hy_check.specs.declared.fold.Folded.{Folded}
 use Rattle.hy_rules.specs.Validation.{verdicts_after, history_after, rows_after}
 

@@ -2,7 +2,7 @@
 //!
 //! What an intention touches are spans of keys, many of one key alone. Each is looked up by itself, in the parts of the tree that
 //! have a row past the position in question.
-ghost use Rattle.std.specs.Prelude.{◌≡◌, ◌==◌, ◌<◌};
+ghost use Rattle.std.specs.Prelude.{◌≡◌, ◌==◌, ◌<◌, Some};
 ghost use Rattle.std.specs.List.{list_any};
 ghost use Rattle.hy_base.specs.Entry.{is_in_span};
 ghost use Rattle.hy_base.specs.Marks.{first_late, known_to};
@@ -10,7 +10,6 @@ ghost use Rattle.hy_tree.specs.TreeRows.{AreRows};
 ghost use Rattle.hy_rules.specs.Members.{earliest};
 ghost use Rattle.hy_rules.specs.Validation.{earlier};
 ghost use Rattle.hy_check.specs.Conflicts.{known_where};
-ghost use Rattle.std.specs.Prelude.{Some};
 
 use hy_base::{Clash, Intention, Key, Pos, Span, Steps, Write};
 use hy_tree::{Tree, View};
