@@ -13,5 +13,5 @@ pub use log_texts::{
     ahead_line, behind_line, compact_fault_line, config_line, device_line, entry_line, frame_line,
     page_line, point_line, spare_line, table_line, write_check, write_compact, write_dump,
 };
-pub use summary::write_summary;
+pub use summary::{EndedLoad, write_summary};
 pub use texts::{memory_line, script_line, source_line, usage_line, write_report, write_trace};
