@@ -1,7 +1,6 @@
 //! `follow`: what became of the entries that the stream of a log tells.
 ghost use Rattle.std.specs.Prelude.{◌≡◌, ◌⊎◌, ◌≤◌, ℕ, List, length, None, Some, IfOk, IfErr, IfSome};
 ghost use Rattle.std.specs.Io.KnownBytes.{IsAtEnd};
-ghost use Rattle.hy_base.specs.Limits.{IsThreadCount};
 ghost use Rattle.hy_follow.specs.Following.{HasFollowed};
 ghost use Rattle.hy_formats.specs.StreamFormat.{came, end_fault};
 ghost use Rattle.hy_formats.specs.declared.damage.BadFrame.{BadFrame};
@@ -17,7 +16,7 @@ use crate::status::Status;
 use hy_follow::{FeedError, Follower, a_follower_decides};
 use hy_formats::{BadFrame, Damage};
 use hy_io::{ReadAllError, Source, read_all};
-use hy_pipe::Gate;
+use hy_pipe::{Gate, Runtime};
 use hy_text::write_check;
 use std::alloc::{AllocError, Global};
 use std::thread::Threads;
@@ -88,32 +87,24 @@ fn told_text(alloc: Global, follower: &Follower) -> Result<Vec<u8>, AllocError>
 
 // What these bytes tell as a stream.
 fn follow_bytes<R: Threads + Sync, G: Gate + Sync>(
-    rt: &R,
-    alloc: Global,
+    runtime: &Runtime<R, G>,
     bytes: &[u8],
-    threads: usize,
-    gate: &G,
 ) -> Result<Vec<u8>, Status>
-    requires threads { IsThreadCount threads }
     ensures text { IfOk result (λ text. (end_fault (came bytes.now) ≡ None) × (text.items ≡ verdicts_text (came bytes.now).shape (came bytes.now).entries)) }
     ensures refused { IfErr result (λ status. (status ≡ Status.Memory) ⊎ ((bad : BadFrame) × (end_fault (came bytes.now) ≡ Some bad) × (status ≡ refusal_of bad))) }
 {
-    let mut follower = Follower::new(alloc);
-    follower.feed(rt, alloc, bytes, threads, gate)?;
+    let mut follower = Follower::new(runtime.alloc);
+    follower.feed(runtime, bytes)?;
     follower.finish()?;
-    Ok(told_text(alloc, &follower)?)
+    Ok(told_text(runtime.alloc, &follower)?)
 }
 
 /// What became of the entries of the stream that a source has left, and the rows that they leave; or why that isn't told.
 #[tactic(auto, using(crate::proofs::Streaming::unread_fault, crate::proofs::Streaming::stream_fault, crate::proofs::Streaming::followed, crate::proofs::Streaming::left_whole))]
 pub fn follow<R: Threads + Sync, S: Source, G: Gate + Sync>(
-    rt: &R,
-    alloc: Global,
+    runtime: &Runtime<R, G>,
     source: &mut S,
-    threads: usize,
-    gate: &G,
 ) -> Result<Vec<u8>, Status>
-    requires threads { IsThreadCount threads }
     ensures text { IfOk result (λ text. IsFollowed (S.left source.old) text.items) }
     ensures end { IfOk result (λ _. IsAtEnd (S.left source.new)) }
     ensures refused { IfErr result (IsStreamFault (S.left source.old) (S.faults source.old) (S.faults source.new)) }
@@ -121,6 +112,6 @@ pub fn follow<R: Threads + Sync, S: Source, G: Gate + Sync>(
     ensures front { GivesAtMost (S.left source.old) (S.left source.new) 16777217 }
     ensures count { S.faults source.old ≤ S.faults source.new }
 {
-    let bytes = read_stream(alloc, source)?;
-    follow_bytes(rt, alloc, &bytes, threads, gate)
+    let bytes = read_stream(runtime.alloc, source)?;
+    follow_bytes(runtime, &bytes)
 }

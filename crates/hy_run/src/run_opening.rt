@@ -1,6 +1,5 @@
 //! What a run opens with: the log restarted, and its tables looked at.
 ghost use Rattle.std.specs.Prelude.{◌≡◌, ◌+◌, ◌-◌, ◌≤◌, length, drop, false, IfOk, IfErr};
-ghost use Rattle.hy_base.specs.Limits.{IsThreadCount};
 ghost use Rattle.hy_base.specs.Shape.{whole_groups};
 ghost use Rattle.hy_disk.specs.Moments.{OnlyReads};
 ghost use Rattle.hy_entries.specs.LogEntries.{AreFoundIn};
@@ -16,10 +15,10 @@ use hy_base::{Entry, Key, Pos, Script, Shared};
 use hy_disk::Disk;
 use hy_log::PageLog;
 use hy_opening::{opening_fault, opening_looks_tell};
-use hy_pipe::Gate;
+use hy_pipe::{Gate, Runtime};
 use hy_restart::{Restarted, restart};
 use hy_tables::opening_fault_tells;
-use std::alloc::{AllocError, Global};
+use std::alloc::AllocError;
 use std::thread::Threads;
 
 // The entries behind a position, of those past a cut.
@@ -34,18 +33,14 @@ fn waiting(entries: &[Shared<Entry>], from: Pos, at: Pos) -> &[Shared<Entry>]
 // would be once fillers completed the last group.
 #[tactic(auto, using(crate::proofs::TableLooks::none_is_seen))]
 fn fault_of<R: Threads + Sync, G: Gate + Sync>(
-    rt: &R,
-    alloc: Global,
+    runtime: &Runtime<R, G>,
     script: &Script,
     from: Pos,
     restarted: &Restarted,
-    threads: usize,
-    gate: &G,
 ) -> Result<Option<Key>, AllocError>
     requires shape { restarted.now.roller.shape ≡ script.now.shape }
     requires at { rolled_upto restarted.now.roller ≡ whole_groups script.now.shape (from + length restarted.now.entries.items) }
     requires within { from + length restarted.now.entries.items ≤ script.now.shape.cap }
-    requires threads { IsThreadCount threads }
     ensures { IfOk result (λ key. key ≡ fault_seen script.now.tables restarted.now.roller from restarted.now.entries.items) }
 {
     let tables = script.tables();
@@ -55,24 +50,20 @@ fn fault_of<R: Threads + Sync, G: Gate + Sync>(
     let _ = script.shape();
     let roller = &restarted.roller;
     let waits = waiting(&restarted.entries, from, roller.at());
-    opening_fault(rt, alloc, roller, waits, tables, threads, gate)
+    opening_fault(runtime, roller, waits, tables)
 }
 
 /// The log restarted, where its tables are sound if the script has some.
 ///
 /// Errors: those of a restart; `Table`, the tables aren't sound; `Memory`, out of memory. Both devices are only read.
 pub fn open_run<R: Threads + Sync, D: Disk, G: Gate + Sync>(
-    rt: &R,
-    alloc: Global,
+    runtime: &Runtime<R, G>,
     script: &Script,
     options: RunOptions,
     log: &mut PageLog<D>,
     points: &mut D,
-    threads: usize,
-    gate: &G,
 ) -> Result<Restarted, Status>
     requires shape { log.old.shape ≡ script.now.shape }
-    requires threads { IsThreadCount threads }
     ensures found { IfOk result (λ r. AreFoundIn D.tells (header_of log.old) log.old.bodies r.entries.items) }
     ensures opened { IfOk result (λ r. IsOpened D.tells options script.now (header_of log.old) (D.content points.old) r.entries.items r.roller) }
     ensures cause { IfErr result (IsRanFault options script.now (header_of log.old) log.old.bodies (over D.tells D.content D.moment D.left_since D.faults_of log.old.disk log.new.disk) (over D.tells D.content D.moment D.left_since D.faults_of points.old points.new)) }
@@ -85,9 +76,9 @@ pub fn open_run<R: Threads + Sync, D: Disk, G: Gate + Sync>(
     opening_looks_tell();
     opening_fault_tells();
     let _ = script.shape();
-    let restarted = restart(rt, alloc, log, points, options.from_point, threads, gate)?;
+    let restarted = restart(runtime, log, points, options.from_point)?;
     let _ = restarted.roller.base_tree();
-    match fault_of(rt, alloc, script, log.from(), &restarted, threads, gate)? {
+    match fault_of(runtime, script, log.from(), &restarted)? {
         None => Ok(restarted),
         Some(key) => Err(Status::Table { key }),
     }

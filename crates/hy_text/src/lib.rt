@@ -14,5 +14,5 @@ pub use log_texts::{
     page_line, point_line, put_entry, put_header, spare_line, table_line, write_check, write_compact,
     write_dump,
 };
-pub use summary::write_summary;
+pub use summary::{EndedLoad, write_summary};
 pub use texts::{memory_line, script_line, source_line, usage_line, write_report, write_trace};

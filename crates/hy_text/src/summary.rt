@@ -108,27 +108,32 @@ fn put_verdicts(
     put_line(out, b"commit", &words)
 }
 
-/// The summary of a load that was made of a seed and a size: its entries and the fillers among them, the commits and the
-/// aborts by the kind of conflict with the number of programs that only read, and the number of rows that are live at the
-/// end of its log. An abort for an old snapshot isn't counted: the log of a load has no horizon.
-pub fn write_summary(
-    alloc: Global,
-    seed: u64,
-    size: u32,
-    entries: &[Shared<Entry>],
-    verdicts: &[Option<Verdict>],
-    reads: u64,
-    live: &[Row],
-) -> Result<Vec<u8>, AllocError>
-    ensures { IfOk result (λ text. text.items ≡ summary_text seed size entries.now verdicts.now reads live.now) }
+/// A load that was made of a seed and a size, at its end.
+#[derive(Clone, Copy)]
+pub struct EndedLoad<'a> {
+    pub seed: u64,
+    pub size: u32,
+    pub entries: &'a [Shared<Entry>],
+    pub verdicts: &'a [Option<Verdict>],
+    /// How many of its programs only read.
+    pub reads: u64,
+    /// The rows that are live at the end of its log.
+    pub live: &'a [Row],
+}
+
+/// The summary of a load: its entries and the fillers among them, the commits and the aborts by the kind of conflict with the
+/// number of programs that only read, and the number of rows that are live. An abort for an old snapshot isn't counted: the log
+/// of a load has no horizon.
+pub fn write_summary(alloc: Global, load: EndedLoad) -> Result<Vec<u8>, AllocError>
+    ensures { IfOk result (λ text. text.items ≡ summary_text load.seed load.size load.entries.now load.verdicts.now load.reads load.live.now) }
 {
     let mut out = Vec::new(alloc);
-    put_counts(&mut out, seed, size, entries)?;
-    put_verdicts(&mut out, verdicts, reads)?;
+    put_counts(&mut out, load.seed, load.size, load.entries)?;
+    put_verdicts(&mut out, load.verdicts, load.reads)?;
     let state = [
-        Word::Number(entries.len() as u64),
+        Word::Number(load.entries.len() as u64),
         Word::Plain(b"rows"),
-        Word::Number(live.len() as u64),
+        Word::Number(load.live.len() as u64),
     ];
     put_line(&mut out, b"state", &state)?;
     Ok(out)

@@ -11,7 +11,7 @@ use hy_base::{Field, Pos, Shape};
 use hy_formats::{OpenError, RestartError};
 use hy_log::{AppendError, PageLog, PipelinedLog, is_unborn};
 use hy_mem::MemDisk;
-use hy_pipe::OpenGate;
+use hy_pipe::{OpenGate, Runtime};
 use hy_restart::restart;
 use std::alloc::{AllocError, Global};
 use std::test::Fail;
@@ -209,7 +209,8 @@ fn restarted<R: Threads + Sync>(
 ) -> Result<Result<(Pos, usize), RestartError>, Fail> {
     let mut log = third(alloc)?;
     let mut points = device(alloc, points, 0, 0)?;
-    let answer = restart(rt, alloc, &mut log, &mut points, from_point, 1, &OpenGate);
+    let runtime = Runtime::new(rt, alloc, 1, &OpenGate);
+    let answer = restart(&runtime, &mut log, &mut points, from_point);
     drop(log);
     drop(points);
     Ok(answer.map(|r| (r.roller.at(), r.entries.len())))

@@ -9,7 +9,7 @@ use crate::point_format::{FIRST_GROUP, ONE_BY_ONE, TWO_BY_TWO, changed, decoded,
 use hy_base::{Entry, Key, Pos, Shape, Shared, Value};
 use hy_disk::Tuned;
 use hy_mem::MemDisk;
-use hy_pipe::{OpenGate, Roller, roll};
+use hy_pipe::{OpenGate, Roller, Runtime, roll};
 use hy_restart::{SaveError, save, save_point};
 use std::alloc::{AllocError, Global};
 use std::test::Fail;
@@ -169,7 +169,7 @@ fn further<R: Threads + Sync>(
     if room < entries.len() || shape.cap < roller.at() {
         return Err(Fail::new("the log is full"));
     }
-    Ok(roll(roller, rt, alloc, entries, 1, &OpenGate)?)
+    Ok(roll(&Runtime::new(rt, alloc, 1, &OpenGate), roller, entries)?)
 }
 
 // What is saved of a roller.

@@ -6,7 +6,7 @@ use hy_base::{
     Clash, Entry, Intention, Isolation, Items, Pos, Row, Shape, Shared, Span, Verdict, Write,
 };
 use hy_formats::Header;
-use hy_text::{memory_line, page_line, write_check, write_dump, write_summary};
+use hy_text::{EndedLoad, memory_line, page_line, write_check, write_dump, write_summary};
 use std::alloc::{AllocError, Global};
 use std::test::Fail;
 
@@ -142,8 +142,15 @@ fn summary(alloc: Global, verdicts: &[Option<Verdict>]) -> Result<Vec<u8>, Fail>
         writer: 1,
         value: None,
     };
-    let (seed, size) = (18446744073709551615, 80000);
-    let summary = write_summary(alloc, seed, size, &entries, verdicts, 3, &[row]);
+    let load = EndedLoad {
+        seed: 18446744073709551615,
+        size: 80000,
+        entries: &entries,
+        verdicts,
+        reads: 3,
+        live: &[row],
+    };
+    let summary = write_summary(alloc, load);
     drop(entries);
     Ok(summary?)
 }

@@ -16,7 +16,7 @@ use hy_hist::Pass;
 use hy_hub::*;
 use hy_log::{PageLog, open_log};
 use hy_mem::MemDisk;
-use hy_pipe::{OpenGate, roll};
+use hy_pipe::{OpenGate, Runtime, roll};
 use hy_roller::{Roller, Told};
 use std::alloc::{AllocError, Global};
 use std::marker::Brand;
@@ -195,7 +195,8 @@ fn catch_up<D: Disk, B: Since, R: Threads + Wait + Sync>(
     let _ = shape;
     let look = hub.look(rt, pass, server).ok()?;
     let entries = look.entries.as_slice();
-    let rolled = roll(&look.roller, rt, alloc, entries, 1, &OpenGate).ok();
+    let runtime = Runtime::new(rt, alloc, 1, &OpenGate);
+    let rolled = roll(&runtime, &look.roller, entries).ok();
     drop(look);
     Some(hub.publish(rt, pass, server, rolled?))
 }

@@ -61,17 +61,13 @@ fn log(alloc: Global, items: &[Item]) -> Result<Vec<Shared<Entry>>, Fail> {
 
 // A roll further, if the entries are whole groups and have room.
 fn further<R: Threads + Sync, G: Gate + Sync>(
-    rt: &R,
-    alloc: Global,
+    runtime: &Runtime<R, G>,
     shape: Shape,
     roller: &Roller,
     entries: &[Shared<Entry>],
-    threads: usize,
-    gate: &G,
 ) -> Result<Roller, Fail>
     requires good { IsGoodShape shape }
     requires same { roller.now.shape ≡ shape }
-    requires threads { IsThreadCount threads }
     ensures { IfOk result (λ r. r.shape ≡ shape) }
 {
     if entries.len() % usize::from(shape.group) != 0 {
@@ -81,7 +77,7 @@ fn further<R: Threads + Sync, G: Gate + Sync>(
     if room < entries.len() || shape.cap < roller.at() {
         return Err(Fail::new("the log is full"));
     }
-    Ok(roll(roller, rt, alloc, entries, threads, gate)?)
+    Ok(roll(runtime, roller, entries)?)
 }
 
 fn checked(shape: Shape) -> Result<Shape, Fail>
@@ -120,19 +116,15 @@ fn shape_with(horizon: Pos) -> Result<Shape, Fail>
 
 // The entries rolled from the first one on.
 fn rolled<R: Threads + Sync, G: Gate + Sync>(
-    rt: &R,
-    alloc: Global,
+    runtime: &Runtime<R, G>,
     shape: Shape,
     entries: &[Shared<Entry>],
-    threads: usize,
-    gate: &G,
 ) -> Result<Roller, Fail>
     requires good { IsGoodShape shape }
-    requires threads { IsThreadCount threads }
     ensures { IfOk result (λ r. r.shape ≡ shape) }
 {
-    let roller = Roller::new(alloc, shape)?;
-    let end = further(rt, alloc, shape, &roller, entries, threads, gate);
+    let roller = Roller::new(runtime.alloc, shape)?;
+    let end = further(runtime, shape, &roller, entries);
     drop(roller);
     end
 }
@@ -148,7 +140,7 @@ fn rolled_log<R: Threads + Sync, G: Gate + Sync>(
     requires { IsGoodShape shape }
 {
     let entries = log(alloc, items)?;
-    let roller = rolled(rt, alloc, shape, &entries, 2, gate);
+    let roller = rolled(&Runtime::new(rt, alloc, 2, gate), shape, &entries);
     drop(entries);
     roller
 }
@@ -306,16 +298,12 @@ impl Gate for Counts {
 
 // The entries rolled in two parts, the first of so many.
 fn in_parts<R: Threads + Sync, G: Gate + Sync>(
-    rt: &R,
-    alloc: Global,
+    runtime: &Runtime<R, G>,
     shape: Shape,
     entries: &[Shared<Entry>],
     place: usize,
-    threads: usize,
-    gate: &G,
 ) -> Result<Roller, Fail>
     requires good { IsGoodShape shape }
-    requires threads { IsThreadCount threads }
     ensures { IfOk result (λ r. r.shape ≡ shape) }
 {
     if entries.len() < place {
@@ -351,7 +339,8 @@ fn is_as_whole<R: Threads + Sync>(
     requires good { IsGoodShape shape }
     requires threads { IsThreadCount threads }
 {
-    let both = in_parts(rt, alloc, shape, entries, place, threads, &Passing)?;
+    let runtime = Runtime::new(rt, alloc, threads, &Passing);
+    let both = in_parts(&runtime, shape, entries, place)?;
     let shared = both.share();
     drop(both);
     let shared = shared?;
@@ -400,7 +389,7 @@ fn are_cut_well<R: Threads + Sync>(
 fn is_mixed_cut_well<R: Threads + Sync>(rt: &R, alloc: Global) -> Result<bool, Fail> {
     let shape = shape(2, 2, 24)?;
     let entries = mixed(alloc)?;
-    let whole = rolled(rt, alloc, shape, &entries, 1, &OpenGate)?;
+    let whole = rolled(&Runtime::new(rt, alloc, 1, &OpenGate), shape, &entries)?;
     let well = are_cut_well(rt, alloc, shape, &entries, &whole);
     drop(whole);
     drop(entries);
@@ -421,7 +410,7 @@ fn mixed_upto<R: Threads + Sync, G: Gate + Sync>(
 ) -> Result<Pos, Fail> {
     let shape = shape(2, 2, 24)?;
     let entries = mixed(alloc)?;
-    let roller = in_parts(rt, alloc, shape, &entries, 6, 16, gate);
+    let roller = in_parts(&Runtime::new(rt, alloc, 16, gate), shape, &entries, 6);
     drop(entries);
     let roller = roller?;
     let at = roller.at();
@@ -519,7 +508,7 @@ fn roll_widely<R: Threads + Sync, G: Gate + Sync>(
     let sums = sum.share_times(alloc, 512);
     drop(sum);
     let sums = sums?;
-    let roller = rolled(rt, alloc, shape, &sums, 2, gate);
+    let roller = rolled(&Runtime::new(rt, alloc, 2, gate), shape, &sums);
     drop(sums);
     drop(roller?);
     Ok(())
@@ -591,7 +580,7 @@ fn resumed_behind<R: Threads + Sync>(
     requires { IsGoodShape shape }
     ensures { IfOk result (λ r. r.shape ≡ shape) }
 {
-    let part = rolled(rt, alloc, shape, entries, 2, &OpenGate)?;
+    let part = rolled(&Runtime::new(rt, alloc, 2, &OpenGate), shape, entries)?;
     let again = resumed(alloc, shape, entries, &part);
     drop(part);
     again
@@ -615,7 +604,7 @@ fn goes_on<R: Threads + Sync>(
     requires good { IsGoodShape shape }
     requires same { again.now.shape ≡ shape }
 {
-    let end = further(rt, alloc, shape, again, rest, 2, &OpenGate)?;
+    let end = further(&Runtime::new(rt, alloc, 2, &OpenGate), shape, again, rest)?;
     let is_end = is_end_of(&end, whole, again);
     drop(end);
     Ok(is_end)
@@ -662,7 +651,7 @@ fn first_astray<R: Threads + Sync>(
 fn first_place_astray<R: Threads + Sync>(rt: &R, alloc: Global) -> Result<Option<usize>, Fail> {
     let shape = shape(2, 2, 24)?;
     let entries = mixed(alloc)?;
-    let whole = rolled(rt, alloc, shape, &entries, 2, &OpenGate)?;
+    let whole = rolled(&Runtime::new(rt, alloc, 2, &OpenGate), shape, &entries)?;
     let astray = first_astray(rt, alloc, shape, &entries, &whole);
     drop(whole);
     drop(entries);

@@ -2,7 +2,7 @@
 use hy_base::Verdict;
 use hy_follow::*;
 use hy_formats::{BadFrame, Damage};
-use hy_pipe::OpenGate;
+use hy_pipe::{OpenGate, Runtime};
 use hy_roller::Told;
 use std::alloc::Global;
 use std::thread::Threads;
@@ -29,8 +29,9 @@ fn follow_in_two<R: Threads + Sync>(
     let mut follower = Follower::new(alloc);
     let first = &stream[..at.min(stream.len())];
     let second = &stream[first.len()..];
-    follower.feed(rt, alloc, first, 2, &OpenGate)?;
-    follower.feed(rt, alloc, second, 2, &OpenGate)?;
+    let runtime = Runtime::new(rt, alloc, 2, &OpenGate);
+    follower.feed(&runtime, first)?;
+    follower.feed(&runtime, second)?;
     if let Err(bad) = follower.finish() {
         return Err(FeedError::BadFrame(bad));
     }
