@@ -408,7 +408,7 @@ fn row_text(alloc: Global, text: &[u8]) -> Result<Value, LineError>
 
 /// The line that stands between programs.
 #[tactic(auto, using(crate::proofs::ScriptLines::last_count))]
-pub fn read_listing(
+pub(crate) fn read_listing(
     sim: bool,
     shape: Shape,
     servers: u8,

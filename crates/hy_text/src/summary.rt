@@ -124,8 +124,8 @@ pub struct EndedLoad<'a> {
 /// The summary of a load: its entries and the fillers among them, the commits and the aborts by the kind of conflict with the
 /// number of programs that only read, and the number of rows that are live. An abort for an old snapshot isn't counted: the log
 /// of a load has no horizon.
-pub fn write_summary(alloc: Global, load: EndedLoad) -> Result<Vec<u8>, AllocError>
-    ensures { IfOk result (λ text. text.items ≡ summary_text load.seed load.size load.entries.now load.verdicts.now load.reads load.live.now) }
+pub fn write_summary(alloc: Global, load: &EndedLoad) -> Result<Vec<u8>, AllocError>
+    ensures { IfOk result (λ text. text.items ≡ summary_text load.now.seed load.now.size load.now.entries.now load.now.verdicts.now load.now.reads load.now.live.now) }
 {
     let mut out = Vec::new(alloc);
     put_counts(&mut out, load.seed, load.size, load.entries)?;

@@ -150,7 +150,7 @@ fn summary(alloc: Global, verdicts: &[Option<Verdict>]) -> Result<Vec<u8>, Fail>
         reads: 3,
         live: &[row],
     };
-    let summary = write_summary(alloc, load);
+    let summary = write_summary(alloc, &load);
     drop(entries);
     Ok(summary?)
 }
