@@ -47,7 +47,7 @@ fn value(alloc: Global, number: u32) -> Result<Value, AllocError>
 fn two(alloc: Global, first: Command, second: Command) -> Result<Commands, AllocError>
     ensures { IfOk result (λ commands. commands ≡ first ∷ second ∷ []) }
 {
-    let mut commands = Items::new(alloc);
+    let mut commands = Items::with_capacity(alloc, 2)?;
     commands.push(first)?;
     commands.push(second)?;
     Ok(commands)
@@ -75,7 +75,7 @@ fn commands(alloc: Global, number: u32, draw: Draw) -> Result<Commands, AllocErr
             two(alloc, scan, put)
         }
         _ => {
-            let mut commands = Items::new(alloc);
+            let mut commands = Items::with_capacity(alloc, 1)?;
             commands.push(Command::Get(500 + other))?;
             Ok(commands)
         }
