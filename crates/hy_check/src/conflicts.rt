@@ -1,7 +1,7 @@
 //! The first conflict of an intention with the last rows of keys.
 //!
-//! What an intention touches are spans of keys, many of one key alone. Each is looked up by itself, in the parts of the tree that
-//! have a row past the position in question.
+//! What an intention touches are spans of keys, many of one key alone. Each is looked up by itself, in the parts of the tree
+//! that have a row past the position in question.
 ghost use Rattle.std.specs.Prelude.{◌≡◌, ◌==◌, ◌<◌, Some};
 ghost use Rattle.std.specs.List.{list_any};
 ghost use Rattle.hy_base.specs.Entry.{is_in_span};

@@ -1,9 +1,10 @@
 //! The verdicts and rows of a log, by the last rows of keys.
 //!
-//! No entry is compared with all that committed past its snapshot: whether a key was written since is told by its last row. Three
-//! states of the rows are kept, that after all groups so far and those at the ends of the last two whole windows, the earlier of
-//! which is the premeld base.
-ghost use Rattle.std.specs.Prelude.{◌≡◌, ◌==◌, ◌+◌, ◌*◌, ◌/◌, ◌%◌, ◌^◌, ◌<◌, ◌≤◌, [], length, drop, ◌++◌, OnOk, IfOk, if◌then◌else◌};
+//! No entry is compared with all that committed past its snapshot: whether a key was written since is told by its last row.
+//! Three states of the rows are kept, that after all groups so far and those at the ends of the last two whole windows, the
+//! earlier of which is the premeld base.
+ghost use Rattle.std.specs.Prelude.{◌≡◌, ◌==◌, ◌+◌, ◌*◌, ◌/◌, ◌%◌, ◌^◌, ◌<◌, ◌≤◌, [], length, drop, ◌++◌, OnOk, IfOk};
+ghost use Rattle.std.specs.Prelude.{if◌then◌else◌};
 ghost use Rattle.hy_base.specs.Shape.{IsGoodShape};
 ghost use Rattle.hy_base.specs.Log.{IsLawful};
 ghost use Rattle.hy_base.specs.Lists.{put};
@@ -114,7 +115,8 @@ impl LastRows {
     ) -> Result<LastRows, AllocError>
         requires { from ≤ length history.now }
         ensures now { IfOk result (λ after. after.now ≡ applied self.now (drop from history.now)) }
-        ensures kept { IfOk result (λ after. after.kept ≡ (if is_last then applied self.now (drop from history.now) else self.kept)) }
+        ensures kept { IfOk result (λ after.
+            after.kept ≡ (if is_last then applied self.now (drop from history.now) else self.kept)) }
         ensures base { IfOk result (λ after. after.base ≡ (if is_last then self.kept else self.base)) }
     {
         let LastRows { now, kept, base } = self;
@@ -218,8 +220,8 @@ fn folded_after(alloc: Global, entries: &[Entry], shape: Shape) -> Result<Folded
     })
 }
 
-/// The verdicts of a log's whole groups, and the rows after them: one entry after another is validated against what committed before
-/// it, without marks, premeld or stages. `AllocError` where memory runs out.
+/// The verdicts of a log's whole groups, and the rows after them: one entry after another is validated against what committed
+/// before it, without marks, premeld or stages. `AllocError` where memory runs out.
 pub fn plain_fold(alloc: Global, entries: &[Entry], shape: Shape) -> Result<Folded, AllocError>
     requires good { IsGoodShape shape }
     requires lawful { IsLawful shape entries.now }

@@ -4,7 +4,8 @@ ghost use Rattle.std.specs.List.{list_any};
 ghost use Rattle.hy_base.specs.declared.record.Row.{Row};
 ghost use Rattle.hy_base.specs.Entry.{touches, is_in_span};
 ghost use Rattle.hy_base.specs.Rows.{Each, WritersRise, newest, rows_at, up_to};
-ghost use Rattle.hy_rules.specs.Validation.{touched, first_clash, standing_of, standings, joined_writes, late_conflicts, fate_of, fated, group_verdicts};
+ghost use Rattle.hy_rules.specs.Validation.{touched, first_clash, standing_of, standings, joined_writes, late_conflicts};
+ghost use Rattle.hy_rules.specs.Validation.{fate_of, fated, group_verdicts};
 ghost use Rattle.hy_rules.specs.Members.{standing_as, standings_as};
 
 use crate::conflicts::{conflict, earliest_of};
@@ -60,7 +61,8 @@ fn mate(intention: &Intention, rows: &[Row]) -> Option<Clash>
 
 // Where an entry stands, by the last rows up to the base: no row is past it.
 fn member_of(tree: &Tree, oldest: Pos, joined: &[Row], entry: &Entry) -> Member
-    ensures { (base : ℕ) → Each (λ row. row.writer ≤ base) tree.now → standing_as entry.now result ≡ standing_of tree.now oldest base joined.now entry.now }
+    ensures { (base : ℕ) → Each (λ row. row.writer ≤ base) tree.now
+        → standing_as entry.now result ≡ standing_of tree.now oldest base joined.now entry.now }
 {
     match entry.kind() {
         EntryKind::Filler { .. } => Member::Filler,
@@ -116,7 +118,8 @@ fn members(
 ) -> Result<Vec<Member>, AllocError>
     requires fits { upto + length group.now < 2 ^ 32 }
     ensures count { IfOk result (λ found. length found.items ≡ length group.now) }
-    ensures standings { IfOk result (λ found. (base : ℕ) → Each (λ row. row.writer ≤ base) tree.now → standings_as group.now found.items ≡ standings tree.now oldest base (upto + 1) [] group.now) }
+    ensures standings { IfOk result (λ found. (base : ℕ) → Each (λ row. row.writer ≤ base) tree.now
+        → standings_as group.now found.items ≡ standings tree.now oldest base (upto + 1) [] group.now) }
 {
     let mut found = Vec::new(alloc);
     let mut joined = Vec::new(alloc);
@@ -132,7 +135,8 @@ fn members(
 
 // The first conflict of a joined member past the base, by the last rows up to its group.
 fn late_conflict(tree: &Tree, base: Pos, entry: &Entry, member: Member) -> Option<Clash>
-    ensures { (upto : ℕ) → Each (λ row. row.writer ≤ upto) tree.now → result ≡ first_clash (late_conflicts tree.now base upto (standing_as entry.now member)) }
+    ensures { (upto : ℕ) → Each (λ row. row.writer ≤ upto) tree.now
+        → result ≡ first_clash (late_conflicts tree.now base upto (standing_as entry.now member)) }
 {
     match (member, entry.kind()) {
         (Member::Joined, EntryKind::Txn(intention)) => {
@@ -145,7 +149,8 @@ fn late_conflict(tree: &Tree, base: Pos, entry: &Entry, member: Member) -> Optio
 // The fate that the joined members share.
 fn shared_fate(tree: &Tree, base: Pos, group: &[Entry], members: &[Member]) -> Verdict
     requires count { length members.now ≡ length group.now }
-    ensures { (upto : ℕ) → Each (λ row. row.writer ≤ upto) tree.now → result ≡ fate_of (first_clash (flat_map (late_conflicts tree.now base upto) (standings_as group.now members.now))) }
+    ensures { (upto : ℕ) → Each (λ row. row.writer ≤ upto) tree.now
+        → result ≡ fate_of (first_clash (flat_map (late_conflicts tree.now base upto) (standings_as group.now members.now))) }
 {
     let mut found = None;
     let mut at = group.len();
@@ -201,7 +206,10 @@ pub(crate) fn judge_group(
 ) -> Result<Vec<Option<Verdict>>, AllocError>
     requires fits { upto + length group.now < 2 ^ 32 }
     ensures count { IfOk result (λ vs. length vs.items ≡ length group.now) }
-    ensures verdicts { IfOk result (λ vs. (committed : List Row) → WritersRise committed → Each (λ row. row.writer ≤ upto) committed → base_tree.now ≡ newest (up_to base committed) → tree.now ≡ newest committed → vs.items ≡ group_verdicts committed oldest base upto group.now) }
+    ensures verdicts { IfOk result (λ vs. (committed : List Row)
+        → WritersRise committed → Each (λ row. row.writer ≤ upto) committed
+        → base_tree.now ≡ newest (up_to base committed) → tree.now ≡ newest committed
+        → vs.items ≡ group_verdicts committed oldest base upto group.now) }
 {
     let members = members(alloc, base_tree, oldest, upto, group)?;
     let fate = shared_fate(tree, base, group, &members);

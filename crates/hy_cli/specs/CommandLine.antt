@@ -1,6 +1,8 @@
 -- What the words of a command line ask for: one command with its options, or nothing.
---     A command is a row of the table `commands`, and an option is one of its command's table. So a further command or option is a further row.
-use Rattle.std.specs.Prelude.{ℕ, Bool, true, false, not, ◌&&◌, ◌||◌, List, [], ◌∷◌, ◌++◌, Option, Some, None, if◌then◌else◌, codes, bytes_eq, option_map, option_and_then, slice_get, is_some}
+--     A command is a row of the table `commands`, and an option is one of its command's table. So a further command or
+--     option is a further row.
+use Rattle.std.specs.Prelude.{ℕ, Bool, true, false, not, ◌&&◌, ◌||◌, List, [], ◌∷◌, ◌++◌, Option, Some, None, if◌then◌else◌}
+use Rattle.std.specs.Prelude.{codes, bytes_eq, option_map, option_and_then, slice_get, is_some}
 use Rattle.std.specs.List.{find, list_all, list_any}
 use Rattle.std.specs.Option.{option_map_or}
 use Rattle.std.specs.Str.Parse.{digits_value}
@@ -90,7 +92,8 @@ abbrev pub ship_command : CliCommand
 ship_command = record { name = codes "ship"; options = []; line = λ c. Ship }
 
 abbrev pub follow_command : CliCommand
-follow_command = record { name = codes "follow"; options = threads_option ∷ []; line = λ c. Follow (c.number_or 2 (codes "threads")) }
+follow_command =
+    record { name = codes "follow"; options = threads_option ∷ []; line = λ c. Follow (c.number_or 2 (codes "threads")) }
 
 -- the seed and the size have to be given, so the number for one that is not is never taken
 abbrev pub load_command : CliCommand
@@ -101,7 +104,9 @@ load_command = record {
 }
 
 abbrev pub commands : List CliCommand
-commands = run_command ∷ sim_command ∷ recover_command ∷ check_command ∷ compact_command ∷ ship_command ∷ follow_command ∷ load_command ∷ []
+commands =
+    run_command ∷ sim_command ∷ recover_command ∷ check_command ∷ compact_command ∷ ship_command ∷ follow_command
+    ∷ load_command ∷ []
 
 abbrev pub command_named : Text → Option CliCommand
 command_named word = find (λ c. bytes_eq c.name word) commands
@@ -143,12 +148,15 @@ abbrev pub given_flag : CliOption → Given → Option Given
 given_flag o given = if not (is_given o.name given) then Some (given ++ (o.name, codes "true") ∷ []) else None
 
 abbrev pub given_number : ℕ → ℕ → CliOption → Text → Given → Option Given
-given_number low high o value given = if not (is_given o.name given) && is_number_in low high value then Some (given ++ (o.name, value) ∷ []) else None
+given_number low high o value given =
+    if not (is_given o.name given) && is_number_in low high value then Some (given ++ (o.name, value) ∷ []) else None
 
 -- One option: `flagged` reads on after a flag, and `valued` after the value of a number.
-abbrev pub met_as : OptionKind → CliOption → Option Text → Given → (Given → Option Given) → (Given → Option Given) → Option Given
+abbrev pub met_as : OptionKind → CliOption → Option Text → Given → (Given → Option Given)
+    → (Given → Option Given) → Option Given
 met_as flag o next given flagged valued = option_and_then flagged (given_flag o given)
-met_as (number low high) o next given flagged valued = option_and_then (λ v. option_and_then valued (given_number low high o v given)) next
+met_as (number low high) o next given flagged valued =
+    option_and_then (λ v. option_and_then valued (given_number low high o v given)) next
 
 abbrev pub met : Option CliOption → Option Text → Given → (Given → Option Given) → (Given → Option Given) → Option Given
 met None next given flagged valued = None
@@ -158,7 +166,8 @@ met (Some o) next given flagged valued = met_as o.kind o next given flagged valu
 abbrev pub reads : List CliOption → Given → List Text → Option Given
 reads options given [] = Some given
 reads options given (w ∷ []) = met (option_named options w) None given (λ g. Some g) (λ g. None)
-reads options given (w ∷ (v ∷ rest)) = met (option_named options w) (Some v) given (λ g. reads options g (v ∷ rest)) (λ g. reads options g rest)
+reads options given (w ∷ (v ∷ rest)) =
+    met (option_named options w) (Some v) given (λ g. reads options g (v ∷ rest)) (λ g. reads options g rest)
 
 abbrev pub has_needed : List CliOption → Given → Bool
 has_needed options given = list_all (λ o. not o.needed || is_given o.name given) options

@@ -1,5 +1,6 @@
 -- What clap is told of the program, and what its matches mean.
-use Rattle.std.specs.Prelude.{◌≡◌, ◌≢◌, Bool, true, false, not, List, [], Option, Some, None, codes, bytes_eq, option_map, option_and_then, fold}
+use Rattle.std.specs.Prelude.{◌≡◌, ◌≢◌, Bool, true, false, not, List, [], Option, Some, None, codes, bytes_eq, option_map}
+use Rattle.std.specs.Prelude.{option_and_then, fold}
 use Rattle.std.specs.List.{list_all}
 use Rattle.std.specs.Option.{option_map_or}
 use Rattle.std.specs.Str.Parse.{digits_value, without_leading_plus}
@@ -39,7 +40,9 @@ app_for name options = fold (λ a o. with_rule a (rule_for o)) (new_app name) op
 
 -- the program before its commands; it has no help of its own, so a word for help is a word like others
 abbrev pub program : App
-program = on_top (λ s. record s { disable_help_flag = true; disable_help_subcommand = true; subcommand_required = true }) (new_app (codes "hyder"))
+program =
+    on_top (λ s. record s { disable_help_flag = true; disable_help_subcommand = true; subcommand_required = true })
+    (new_app (codes "hyder"))
 
 abbrev pub with_command : App → CliCommand → App
 with_command a c = with_subcommand a (app_for c.name c.options).top

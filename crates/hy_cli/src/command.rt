@@ -1,6 +1,7 @@
 //! What `clap` is told of the program.
 ghost use Rattle.std.specs.Prelude.{◌≡◌, IfOk, false};
-ghost use Rattle.hy_cli.specs.CommandLine.{CliCommand, flag, follow_command, load_command, run_command, seed_option, sim_command, size_option, threads_option};
+ghost use Rattle.hy_cli.specs.CommandLine.{CliCommand, flag, follow_command, load_command, run_command, seed_option};
+ghost use Rattle.hy_cli.specs.CommandLine.{sim_command, size_option, threads_option};
 ghost use Rattle.hy_cli.specs.Matches.{app_for, hyder_app, program, rule_for, with_command};
 ghost use Rattle.clap.specs.Words.{app_of, rule_of};
 ghost use Rattle.clap.specs.declared.builder.command.Command.TheViews.{out-Command};
@@ -48,7 +49,8 @@ fn flag_arg<'a>(alloc: Global, name: &'a str) -> Arg<'a>
 }
 
 fn run_command<'a>(alloc: Global) -> Result<Command<'a>, AllocError>
-    ensures { IfOk result (λ c. (app_of c ≡ app_for run_command.name run_command.options) × ((out-Command c).has_globals ≡ false)) }
+    ensures { IfOk result (λ c. (app_of c ≡ app_for run_command.name run_command.options)
+        × ((out-Command c).has_globals ≡ false)) }
 {
     Command::new(alloc, "run")
         .arg(threads_arg(alloc))?
@@ -57,19 +59,22 @@ fn run_command<'a>(alloc: Global) -> Result<Command<'a>, AllocError>
 }
 
 fn sim_command<'a>(alloc: Global) -> Result<Command<'a>, AllocError>
-    ensures { IfOk result (λ c. (app_of c ≡ app_for sim_command.name sim_command.options) × ((out-Command c).has_globals ≡ false)) }
+    ensures { IfOk result (λ c. (app_of c ≡ app_for sim_command.name sim_command.options)
+        × ((out-Command c).has_globals ≡ false)) }
 {
     Command::new(alloc, "sim").arg(threads_arg(alloc))
 }
 
 fn follow_command<'a>(alloc: Global) -> Result<Command<'a>, AllocError>
-    ensures { IfOk result (λ c. (app_of c ≡ app_for follow_command.name follow_command.options) × ((out-Command c).has_globals ≡ false)) }
+    ensures { IfOk result (λ c. (app_of c ≡ app_for follow_command.name follow_command.options)
+        × ((out-Command c).has_globals ≡ false)) }
 {
     Command::new(alloc, "follow").arg(threads_arg(alloc))
 }
 
 fn load_command<'a>(alloc: Global) -> Result<Command<'a>, AllocError>
-    ensures { IfOk result (λ c. (app_of c ≡ app_for load_command.name load_command.options) × ((out-Command c).has_globals ≡ false)) }
+    ensures { IfOk result (λ c. (app_of c ≡ app_for load_command.name load_command.options)
+        × ((out-Command c).has_globals ≡ false)) }
 {
     Command::new(alloc, "load")
         .arg(seed_arg(alloc))?
@@ -92,7 +97,9 @@ fn with_command<'a>(
     app: Command<'a>,
     command: Result<Command<'a>, AllocError>,
 ) -> Result<Command<'a>, AllocError>
-    ensures { IfOk result (λ r. (added : CliCommand) → IfOk command.entry (λ c. (app_of c ≡ app_for added.name added.options) × ((out-Command c).has_globals ≡ false)) → app_of r ≡ with_command (app_of app.entry) added) }
+    ensures { IfOk result (λ r. (added : CliCommand)
+        → IfOk command.entry (λ c. (app_of c ≡ app_for added.name added.options) × ((out-Command c).has_globals ≡ false))
+        → app_of r ≡ with_command (app_of app.entry) added) }
 {
     app.subcommand(command?)
 }

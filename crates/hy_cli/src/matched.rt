@@ -2,7 +2,8 @@
 ghost use Rattle.std.specs.Prelude.{◌≡◌, Some, codes, false, is_some, true};
 ghost use Rattle.hy_base.specs.Shape.{IsWithin};
 ghost use Rattle.hy_base.specs.Limits.{IsThreadCount};
-ghost use Rattle.hy_cli.specs.CommandLine.{IsInOptionRange, command_named, command_word, flag, seed_option, size_option, threads_option};
+ghost use Rattle.hy_cli.specs.CommandLine.{IsInOptionRange, command_named, command_word, flag, seed_option, size_option};
+ghost use Rattle.hy_cli.specs.CommandLine.{threads_option};
 ghost use Rattle.hy_cli.specs.Matches.{choices_found, has_accepted, is_accepted, line_found};
 ghost use Rattle.clap.specs.Words.{found_of, rows_of};
 

@@ -41,7 +41,8 @@ fn texts_of<'a>(alloc: Global, words: &'a Words) -> Result<Vec<&'a str>, AllocEr
 }
 
 fn parse_texts(alloc: Global, words: &[&str]) -> Result<Line, CliError>
-    ensures obeyed { (l : Line) → line_of (map (λ t. t.now) words.now) ≡ Some l → MatchResult result (λ r. r ≡ l) (λ e. e ≡ CliError.Memory) }
+    ensures obeyed { (l : Line) → line_of (map (λ t. t.now) words.now) ≡ Some l
+        → MatchResult result (λ r. r ≡ l) (λ e. e ≡ CliError.Memory) }
     ensures unknown { names_command (map (λ t. t.now) words.now) ≡ false → IsErr result }
     ensures refused { IfErr result (λ e. e ≡ CliError.Usage → refuses (map (λ t. t.now) words.now)) }
     ensures meaning { IfOk result (Asks (map (λ t. t.now) words.now)) }

@@ -54,11 +54,14 @@ pub fn copy_past<D: Disk>(
     requires fits { base + length entries.now ≤ shape.cap }
     requires sound { AllByRecursion (IsSoundEntry shape.version) entries.now }
     requires unborn { IsTrue D.tells → is_unborn (D.content spare).seen ≡ true }
-    ensures copied { IsTrue D.tells → IfOk result (λ spare. (image : List ℕ) → Image (D.content spare) image → Holds (record { shape = shape; from = base }) (map (spelling shape.version) entries.now) image) }
+    ensures copied { IsTrue D.tells → IfOk result (λ spare. (image : List ℕ) → Image (D.content spare) image
+        → Holds (record { shape = shape; from = base }) (map (spelling shape.version) entries.now) image) }
     ensures any_moment { IsTrue D.tells → D.content spare ≡ settled (D.content spare).seen
-        → LeavesOnly D.moment D.left_since spare (spare_of result) (IsPartlyCopied (record { shape = shape; from = base }) entries.now) }
+        → LeavesOnly D.moment D.left_since spare (spare_of result)
+        (IsPartlyCopied (record { shape = shape; from = base }) entries.now) }
     ensures later { D.faults_of spare ≤ D.faults_of (spare_of result) }
-    ensures cause { IfErr result (λ refused. refused.error ≡ copying.Device → Rose (D.faults_of spare) (D.faults_of refused.spare)) }
+    ensures cause { IfErr result (λ refused. refused.error ≡ copying.Device
+        → Rose (D.faults_of spare) (D.faults_of refused.spare)) }
     ensures in_use { IsTrue D.tells → IfErr result (λ refused. refused.error ≡ copying.InUse → ⊥) }
 {
     let mut log = match open_cut(alloc, spare, shape, base) {

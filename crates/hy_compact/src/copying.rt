@@ -32,7 +32,10 @@ fn add_batch<D: Disk>(
     requires running { spare.old.stopped ≡ None }
     requires fits { length spare.old.bodies + length entries.now ≤ places_of (header_of spare.old) }
     requires places { length entries.now ≤ spare.old.spare }
-    ensures added { OnOk result (spare.new ≡ record spare.old { batch = map (spelling spare.old.shape.version) entries.now; spare = spare.old.spare - length entries.now }) }
+    ensures added { OnOk result (spare.new ≡ record spare.old {
+      batch = map (spelling spare.old.shape.version) entries.now;
+      spare = spare.old.spare - length entries.now;
+    }) }
     ensures same { (spare.new.disk ≡ spare.old.disk) × (header_of spare.new ≡ header_of spare.old) }
     ensures memory { IfErr result (λ error. error ≡ copying.Memory) }
 {
@@ -58,11 +61,20 @@ fn append_batch<D: Disk>(
     requires running { spare.old.stopped ≡ None }
     requires fits { length spare.old.bodies + length entries.now ≤ places_of (header_of spare.old) }
     requires places { length entries.now ≤ spare.old.spare }
-    requires held { IsTrue D.tells → (D.content spare.old.disk ≡ settled (D.content spare.old.disk).seen) × Holds (header_of spare.old) spare.old.bodies (D.content spare.old.disk).seen }
-    ensures grown { OnOk result ((length spare.new.bodies ≡ length spare.old.bodies + length entries.now) × (spare.new.stopped ≡ None) × (spare.new.batch ≡ []) × (spare.old.spare ≤ spare.new.spare + length entries.now)) }
-    ensures appended { IsTrue D.tells → OnOk result ((spare.new.bodies ≡ spare.old.bodies ++ map (spelling spare.old.shape.version) entries.now)
-        × (D.content spare.new.disk ≡ settled (D.content spare.new.disk).seen) × Holds (header_of spare.old) spare.new.bodies (D.content spare.new.disk).seen) }
-    ensures any_moment { IsTrue D.tells → LeavesOnly D.moment D.left_since spare.old.disk spare.new.disk (HoldsUpTo (header_of spare.old) spare.old.bodies (map (spelling spare.old.shape.version) entries.now)) }
+    requires held { IsTrue D.tells
+        → (D.content spare.old.disk ≡ settled (D.content spare.old.disk).seen)
+        × Holds (header_of spare.old) spare.old.bodies (D.content spare.old.disk).seen }
+    ensures grown { OnOk result ((length spare.new.bodies ≡ length spare.old.bodies + length entries.now)
+        × (spare.new.stopped ≡ None)
+        × (spare.new.batch ≡ [])
+        × (spare.old.spare ≤ spare.new.spare + length entries.now)) }
+    ensures appended { IsTrue D.tells
+        → OnOk result ((spare.new.bodies ≡ spare.old.bodies ++ map (spelling spare.old.shape.version) entries.now)
+        × (D.content spare.new.disk ≡ settled (D.content spare.new.disk).seen)
+        × Holds (header_of spare.old) spare.new.bodies (D.content spare.new.disk).seen) }
+    ensures any_moment { IsTrue D.tells
+        → LeavesOnly D.moment D.left_since spare.old.disk spare.new.disk
+        (HoldsUpTo (header_of spare.old) spare.old.bodies (map (spelling spare.old.shape.version) entries.now)) }
     ensures header { header_of spare.new ≡ header_of spare.old }
     ensures later { D.faults_of spare.old.disk ≤ D.faults_of spare.new.disk }
     ensures cause { result ≡ Err copying.Device → Rose (D.faults_of spare.old.disk) (D.faults_of spare.new.disk) }
@@ -87,10 +99,14 @@ pub fn append_all<D: Disk>(
     requires sound { AllByRecursion (IsSoundEntry spare.old.shape.version) entries.now }
     requires fits { length entries.now ≤ places_of (header_of spare.old) }
     requires places { length entries.now ≤ spare.old.spare }
-    requires held { IsTrue D.tells → (D.content spare.old.disk ≡ settled (D.content spare.old.disk).seen) × Holds (header_of spare.old) [] (D.content spare.old.disk).seen }
+    requires held { IsTrue D.tells
+        → (D.content spare.old.disk ≡ settled (D.content spare.old.disk).seen)
+        × Holds (header_of spare.old) [] (D.content spare.old.disk).seen }
     ensures running { OnOk result (spare.new.stopped ≡ None) }
-    ensures copied { IsTrue D.tells → OnOk result ((D.content spare.new.disk ≡ settled (D.content spare.new.disk).seen) × Holds (header_of spare.old) (map (spelling spare.old.shape.version) entries.now) (D.content spare.new.disk).seen) }
-    ensures any_moment { IsTrue D.tells → LeavesOnly D.moment D.left_since spare.old.disk spare.new.disk (HoldsFirst (header_of spare.old) entries.now) }
+    ensures copied { IsTrue D.tells → OnOk result ((D.content spare.new.disk ≡ settled (D.content spare.new.disk).seen)
+        × Holds (header_of spare.old) (map (spelling spare.old.shape.version) entries.now) (D.content spare.new.disk).seen) }
+    ensures any_moment { IsTrue D.tells
+        → LeavesOnly D.moment D.left_since spare.old.disk spare.new.disk (HoldsFirst (header_of spare.old) entries.now) }
     ensures later { D.faults_of spare.old.disk ≤ D.faults_of spare.new.disk }
     ensures cause { result ≡ Err copying.Device → Rose (D.faults_of spare.old.disk) (D.faults_of spare.new.disk) }
     ensures no_use { result ≡ Err copying.InUse → ⊥ }

@@ -1,5 +1,7 @@
 -- What the core keeps of a run, and how it stands for a state.
-use Rattle.std.specs.Prelude.{◌≡◌, ℕ, ◌+◌, ◌-◌, ◌%◌, ◌^◌, ◌<◌, ◌≤◌, List, [], ◌∷◌, ◌++◌, map, length, take, drop, Option, None, Some, is_none, is_some, IfSome, true, option_map, option_to_list, option_and_then, unwrap_or, find, Result, Ok, Err, replicate, Bool, ◌&&◌, not, nat_le, nat_lt, if◌then◌else◌, ⊤}
+use Rattle.std.specs.Prelude.{◌≡◌, ℕ, ◌+◌, ◌-◌, ◌%◌, ◌^◌, ◌<◌, ◌≤◌, List, [], ◌∷◌, ◌++◌, map, length, take, drop, Option, None}
+use Rattle.std.specs.Prelude.{Some, is_none, is_some, IfSome, true, option_map, option_to_list, option_and_then, unwrap_or}
+use Rattle.std.specs.Prelude.{find, Result, Ok, Err, replicate, Bool, ◌&&◌, not, nat_le, nat_lt, if◌then◌else◌, ⊤}
 use Rattle.std.specs.List.{AllByRecursion}
 use Rattle.hy_base.specs.declared.record.EntryKind.{EntryKind}
 use Rattle.hy_base.specs.declared.record.EntryKind.TheVariants.{Txn}
@@ -43,10 +45,24 @@ pub record Holding : Type 0 where
   pub armed : Option ArmedStop
 
 abbrev pub log_held : Parts → Holding
-log_held p = record { log = p.log.items; pages = p.pages; rollers = p.rollers.items; earlier = p.earlier.items; client_states = p.client_states.items; told = p.told.items; armed = p.armed }
+log_held p = record {
+  log = p.log.items;
+  pages = p.pages;
+  rollers = p.rollers.items;
+  earlier = p.earlier.items;
+  client_states = p.client_states.items;
+  told = p.told.items;
+  armed = p.armed;
+}
 
 abbrev pub state_in_course : Holding → State
-state_in_course h = record { log = h.log; boards = map rolled_upto h.rollers; earlier = map (map rolled_upto) h.earlier; sessions = map (λ x. x.session) h.client_states; armed = h.armed }
+state_in_course h = record {
+  log = h.log;
+  boards = map rolled_upto h.rollers;
+  earlier = map (map rolled_upto) h.earlier;
+  sessions = map (λ x. x.session) h.client_states;
+  armed = h.armed;
+}
 
 -- how a program ended, or none where a stop ended it
 abbrev pub ending_in_course : Option ProgramEnd → Ending
@@ -67,7 +83,8 @@ abbrev pub entry_left : ℕ → ℕ → ℕ → Effects → Option EntryKind
 entry_left server client snap effects = if notes_write effects then Some (Txn (intention server client snap effects)) else None
 
 -- a begun client keeps what its program was answered and what it leaves
-pub record IsRunning (script : Workload) (log : List EntryKind) (number : ℕ) (c : Client) (next snap : ℕ) (running : Option Running) : Type 0 where
+pub record IsRunning (script : Workload) (log : List EntryKind) (number : ℕ) (c : Client) (next snap : ℕ)
+    (running : Option Running) : Type 0 where
   pub left : next ≤ length c.programs
   pub within : snap ≤ length log
   pub whole : snap % script.shape.group ≡ 0
@@ -92,7 +109,9 @@ abbrev pub AreClientStates : Workload → List EntryKind → ℕ → List Client
 AreClientStates script log number [] [] = ⊤
 AreClientStates script log number [] (x ∷ xs) = ⊥
 AreClientStates script log number (c ∷ cs) [] = ⊥
-AreClientStates script log number (c ∷ cs) (x ∷ xs) = IsClientState script log number c x × AreClientStates script log (number + 1) cs xs
+AreClientStates script log number (c ∷ cs) (x ∷ xs) =
+    IsClientState script log number c x
+    × AreClientStates script log (number + 1) cs xs
 
 -- a server's board, or one before it: a roller that stands for the log up to there
 pub record IsServerBoard (script : Workload) (log : List EntryKind) (r : Roll) : Type 0 where
@@ -135,13 +154,17 @@ pub record IsCore (script : Workload) (h : Holding) : Type 0 where
 -- one event further
 pub record StepsTo (script : Workload) (old new : Holding) (event : Event) : Type 0 where
   pub holding : IsHolding script new
-  pub leads : state_in_course new ≡ after (setting_of script) (state_in_course old) event (added script (state_in_course old) event)
+  pub leads :
+      state_in_course new ≡ after (setting_of script) (state_in_course old) event (added script (state_in_course old) event)
   pub ends : done_of new ≡ done_of old ++ ended_by (setting_of script) (state_in_course old) event
   pub whole : is_none new.pages.bodies ≡ is_none old.pages.bodies
 
 -- whether a client's program is begun, and then whether it wrote
 abbrev pub begun_wrote : Workload → State → ℕ → Option Bool
-begun_wrote script s client = if client_passes (setting_of script) s client (λ home session. is_begun session.phase) then Some (leaves_write script s client) else None
+begun_wrote script s client =
+    if client_passes (setting_of script) s client (λ home session. is_begun session.phase)
+    then Some (leaves_write script s client)
+    else None
 
 -- an idle client with a program left, whose last entry is published
 abbrev pub is_ready : Session → ℕ → ℕ → Bool
@@ -167,11 +190,14 @@ NextFits h client = (x : ClientState) → nth h.client_states client ≡ Some x 
 
 -- what the client's program leaves is an entry, which the log can hold
 abbrev pub LeavesEntry : Holding → ℕ → Type 0
-LeavesEntry h client = (x : ClientState) (run : Running) → nth h.client_states client ≡ Some x → x.running ≡ Some run → (e : EntryKind) × (run.entry ≡ Some e) × FitsVersion h.pages.shape.version e
+LeavesEntry h client =
+    (x : ClientState) (run : Running) → nth h.client_states client ≡ Some x → x.running ≡ Some run
+    → (e : EntryKind) × (run.entry ≡ Some e) × FitsVersion h.pages.shape.version e
 
 -- what is told of a begun program that ends so
 abbrev pub told_in_course : ℕ → ℕ → ClientState → Running → ProgramEnd → EndedProgram
-told_in_course client snap x run end = record { client = client; number = x.session.next; snap = snap; end = Some end; answers = run.answers }
+told_in_course client snap x run end =
+    record { client = client; number = x.session.next; snap = snap; end = Some end; answers = run.answers }
 
 -- a begun client's program ends: it is told, and the client's state is at the next program
 abbrev pub finishing : Holding → ℕ → ℕ → ClientState → Running → ProgramEnd → Holding
@@ -181,11 +207,14 @@ finishing h client snap x run end = record h {
 }
 
 abbrev pub Finishes : Holding → Holding → ℕ → ProgramEnd → Type 0
-Finishes old new client end = (snap : ℕ) (x : ClientState) (run : Running) → BegunClientState old client snap x run → new ≡ finishing old client snap x run end
+Finishes old new client end =
+    (snap : ℕ) (x : ClientState) (run : Running) → BegunClientState old client snap x run
+    → new ≡ finishing old client snap x run end
 
 -- the pages with a body more, so many times, where a stop may strike in the first append
 abbrev pub pages_with : Option ArmedStop → ℕ → EntryKind → Pages → Pages
-pages_with stop count e pages = record pages { bodies = option_map (with_body stop count (spelling pages.shape.version e)) pages.bodies }
+pages_with stop count e pages =
+    record pages { bodies = option_map (with_body stop count (spelling pages.shape.version e)) pages.bodies }
 
 -- and its entry is appended
 abbrev pub appending_in : Holding → ℕ → ℕ → ℕ → ClientState → Running → EntryKind → Holding
@@ -197,13 +226,16 @@ appending_in h client pos snap x run e = record h {
 }
 
 abbrev pub Appends : Holding → Holding → ℕ → ℕ → Type 0
-Appends old new client pos = (snap : ℕ) (x : ClientState) (run : Running) (e : EntryKind) → BegunClientState old client snap x run → run.entry ≡ Some e → new ≡ appending_in old client pos snap x run e
+Appends old new client pos =
+    (snap : ℕ) (x : ClientState) (run : Running) (e : EntryKind) → BegunClientState old client snap x run → run.entry ≡ Some e
+    → new ≡ appending_in old client pos snap x run e
 
 -- the first of these clients, the first of which has this number, that is begun or has a program left
 abbrev pub first_unfinished : ℕ → List Client → List ClientState → Option (ℕ × (Home × Session))
 first_unfinished number [] xs = None
 first_unfinished number (c ∷ cs) [] = None
-first_unfinished number (c ∷ cs) (x ∷ xs) = if not (is_done (home_of c) x.session) then Some (number, (home_of c, x.session)) else first_unfinished (number + 1) cs xs
+first_unfinished number (c ∷ cs) (x ∷ xs) =
+    if not (is_done (home_of c) x.session) then Some (number, (home_of c, x.session)) else first_unfinished (number + 1) cs xs
 
 -- the client with this number is the first
 pub record IsUnfinished (clients : List Client) (client_states : List ClientState) (number : ℕ) : Type 0 where
@@ -214,7 +246,8 @@ pub record IsUnfinished (clients : List Client) (client_states : List ClientStat
   pub first : first_unfinished 1 clients client_states ≡ Some (number, (home_of own, client_state.session))
 
 -- and this is its session, and its server
-pub record IsUnfinishedAt (clients : List Client) (client_states : List ClientState) (number : ℕ) (session : Session) (server : ℕ) : Type 0 where
+pub record IsUnfinishedAt (clients : List Client) (client_states : List ClientState) (number : ℕ) (session : Session)
+    (server : ℕ) : Type 0 where
   pub is : IsUnfinished clients client_states number
   pub session_is : is.client_state.session ≡ session
   pub server_is : is.own.server ≡ server
@@ -225,7 +258,8 @@ snap_or_end (On snap) = Ok snap
 snap_or_end (Past from) = Err (TooEarly from)
 snap_or_end (NotYet board) = Err (TooLate board)
 
--- a client's next program ends before it is begun: it is told without answers, and the client's state is at the program after it
+-- a client's next program ends before it is begun: it is told without answers, and the client's state is at
+-- the program after it
 abbrev pub turning_away : Holding → ℕ → ClientState → ProgramEnd → Holding
 turning_away h client x end = record h {
   client_states = change_nth (λ _. departed x.session.next x.session.last) h.client_states client;
@@ -249,15 +283,21 @@ keeping_rolls keeps board older = take (keeps - 1) (board ∷ older)
 
 -- its board is this roller then
 abbrev pub moving_on : Holding → ℕ → ℕ → Roll → Roll → Holding
-moving_on h server keeps own rolled = record h { rollers = change_nth (λ _. rolled) h.rollers server; earlier = change_nth (keeping_rolls keeps own) h.earlier server }
+moving_on h server keeps own rolled = record h {
+  rollers = change_nth (λ _. rolled) h.rollers server;
+  earlier = change_nth (keeping_rolls keeps own) h.earlier server;
+}
 
 abbrev pub MovesOn : Holding → Holding → ℕ → ℕ → Roll → Type 0
-MovesOn old new server keeps rolled = (own : Roll) → nth old.rollers server ≡ Some own → new ≡ moving_on old server keeps own rolled
+MovesOn old new server keeps rolled =
+    (own : Roll) → nth old.rollers server ≡ Some own
+    → new ≡ moving_on old server keeps own rolled
 
 -- of a roller and of these, the furthest that hasn't passed a position
 abbrev pub furthest : ℕ → Roll → List Roll → Roll
 furthest upto best [] = best
-furthest upto best (r ∷ rs) = furthest upto (if nat_lt (rolled_upto best) (rolled_upto r) && nat_le (rolled_upto r) upto then r else best) rs
+furthest upto best (r ∷ rs) =
+    furthest upto (if nat_lt (rolled_upto best) (rolled_upto r) && nat_le (rolled_upto r) upto then r else best) rs
 
 -- the first of these servers, the first of which has this number, whose board is below the log's length
 abbrev pub first_behind : ℕ → ℕ → List Roll → Option ℕ
@@ -274,7 +314,8 @@ may_stop armed call pattern = is_none armed && (is_within 1 4 call && nat_le pat
 
 -- what the client's begun program leaves
 abbrev pub left_entry : List ClientState → ℕ → Option EntryKind
-left_entry client_states client = option_and_then (λ x. option_and_then (λ (r : Running). r.entry) x.running) (nth client_states client)
+left_entry client_states client =
+    option_and_then (λ x. option_and_then (λ (r : Running). r.entry) x.running) (nth client_states client)
 
 -- A roller for each server, at the end of the last whole group, stands for the log.
 pub record AreRestarted (script : Workload) (log : List EntryKind) (rs : List Roll) : Type 0 where
@@ -303,7 +344,9 @@ abbrev pub leaving : Holding → ℕ → ℕ → ℕ → ClientState → Running
 leaving h client pos snap x run e = record (appending_in h client pos snap x run e) { pages = h.pages }
 
 abbrev pub Leaves : Holding → Holding → ℕ → ℕ → Type 0
-Leaves old new client pos = (snap : ℕ) (x : ClientState) (run : Running) (e : EntryKind) → BegunClientState old client snap x run → run.entry ≡ Some e → new ≡ leaving old client pos snap x run e
+Leaves old new client pos =
+    (snap : ℕ) (x : ClientState) (run : Running) (e : EntryKind) → BegunClientState old client snap x run → run.entry ≡ Some e
+    → new ≡ leaving old client pos snap x run e
 
 -- the log on the device is broken in a restart
 pub record Breaking (old new : Holding) : Type 0 where
@@ -320,7 +363,10 @@ abandoned_client_state x = if is_begun x.session.phase then departed x.session.n
 
 -- what is told of it
 abbrev pub abandoned_told : ℕ → ClientState → List EndedProgram
-abandoned_told client x = option_to_list (option_map (λ snap. record { client = client; number = x.session.next; snap = snap; end = None; answers = [] }) (snap_of x.session.phase))
+abandoned_told client x =
+    option_to_list (option_map
+    (λ snap. record { client = client; number = x.session.next; snap = snap; end = None; answers = [] })
+    (snap_of x.session.phase))
 
 -- of these clients, the first of which has this number
 abbrev pub all_abandoned : ℕ → List ClientState → List EndedProgram
@@ -329,4 +375,10 @@ all_abandoned number (x ∷ xs) = abandoned_told number x ++ all_abandoned (numb
 
 -- servers and clients restart
 pub record HasRestarted (old new : Holding) (rs : List Roll) : Type 0 where
-  pub is : new ≡ record old { rollers = rs; earlier = map (λ older. []) old.earlier; client_states = map abandoned_client_state old.client_states; told = old.told ++ all_abandoned 1 old.client_states; armed = None }
+  pub is : new ≡ record old {
+    rollers = rs;
+    earlier = map (λ older. []) old.earlier;
+    client_states = map abandoned_client_state old.client_states;
+    told = old.told ++ all_abandoned 1 old.client_states;
+    armed = None;
+  }

@@ -1,12 +1,14 @@
 //! What a stop leaves, and the restart after it.
-ghost use Rattle.std.specs.Prelude.{◌≡◌, ◌⊎◌, ◌+◌, ◌-◌, ◌<◌, ◌≤◌, ◌++◌, ◌^◌, length, take, drop, vec_len, vec_capacity, Some, None, IfOk, OnOk, OnErr};
+ghost use Rattle.std.specs.Prelude.{◌≡◌, ◌⊎◌, ◌+◌, ◌-◌, ◌<◌, ◌≤◌, ◌++◌, ◌^◌, length, take, drop, vec_len, vec_capacity, Some};
+ghost use Rattle.std.specs.Prelude.{None, IfOk, OnOk, OnErr};
 ghost use Rattle.std.specs.List.{AllByRecursion};
 ghost use Rattle.hy_base.specs.Entry.{FitsVersion};
 ghost use Rattle.hy_base.specs.Log.{IsLawful};
 ghost use Rattle.hy_base.specs.Shape.{IsGoodShape, whole_groups};
 ghost use Rattle.hy_rules.specs.Moves.{is_kept};
 ghost use Rattle.hy_memlog.specs.Pages.{IsStop};
-ghost use Rattle.hy_core.specs.CoreParts.{IsHolding, AreRestarted, HasPlaces, ClientStateFits, HasRestarted, abandoned_client_state, abandoned_told, kept_by, struck, broken, log_held};
+ghost use Rattle.hy_core.specs.CoreParts.{IsHolding, AreRestarted, HasPlaces, ClientStateFits, HasRestarted};
+ghost use Rattle.hy_core.specs.CoreParts.{abandoned_client_state, abandoned_told, kept_by, struck, broken, log_held};
 
 use crate::earlier::clear_all;
 use crate::parts::{ClientState, EndedProgram, Parts, roller_of};
@@ -74,7 +76,8 @@ fn restarted<R: Threads + Sync, G: Gate + Sync>(
 ) -> Result<Vec<Roller>, AllocError>
     requires holding { IsHolding script.now (log_held core.now) }
     requires lawful { IsLawful script.now.shape ((log_held core.now).log ++ kept_by stop entry.now) }
-    ensures { IfOk result (λ rollers. AreRestarted script.now ((log_held core.now).log ++ kept_by stop entry.now) rollers.items) }
+    ensures { IfOk result (λ rollers.
+        AreRestarted script.now ((log_held core.now).log ++ kept_by stop entry.now) rollers.items) }
 {
     let shape = script.shape();
     let Some(roller) = roller_of(&core.rollers, 1) else {
@@ -102,7 +105,8 @@ pub(crate) fn strike<R: Threads + Sync, G: Gate + Sync>(
     requires lawful { IsLawful script.now.shape ((log_held core.old).log ++ kept_by stop entry.now) }
     requires fits { FitsVersion (log_held core.old).pages.shape.version entry.now }
     ensures ok { OnOk result (log_held core.new ≡ struck stop entry.now (log_held core.old)) }
-    ensures boards { IfOk result (λ rollers. AreRestarted script.now ((log_held core.old).log ++ kept_by stop entry.now) rollers.items) }
+    ensures boards { IfOk result (λ rollers.
+        AreRestarted script.now ((log_held core.old).log ++ kept_by stop entry.now) rollers.items) }
     ensures places { (core.new.log ≡ core.old.log) × (core.new.told ≡ core.old.told) }
     ensures err { OnErr result ((log_held core.new ≡ log_held core.old) ⊎ (log_held core.new ≡ broken (log_held core.old))) }
 {

@@ -7,7 +7,8 @@ ghost use Rattle.hy_base.specs.Shape.{line_after};
 ghost use Rattle.hy_rules.specs.History.{live_rows};
 ghost use Rattle.hy_rules.specs.Validation.{rows, verdicts};
 ghost use Rattle.hy_rules.specs.Runs.{setting_of, step, next_event, is_finished, results_at};
-ghost use Rattle.hy_core.specs.Course.{Course, IsReached, Advances, Breaks, Follows, FollowsSome, HasSoundTables, IsRefusedAt, Extends, Completes, opened_course};
+ghost use Rattle.hy_core.specs.Course.{Course, IsReached, Advances, Breaks, Follows, FollowsSome, HasSoundTables, IsRefusedAt};
+ghost use Rattle.hy_core.specs.Course.{Extends, Completes, opened_course};
 
 use crate::moves::perform;
 use crate::parts::{Parts, board_at, may_happen, open, roller_of};
@@ -106,7 +107,8 @@ impl Core {
     ) -> Result<(), StepError>
         ensures ok { OnOk result (Advances self.old event self.new) }
         ensures refused { result ≡ Err StepError.NotEnabled → step self.old.script self.old.state event ≡ None }
-        ensures disabled { self.old.broken ≡ false → step self.old.script self.old.state event ≡ None → result ≡ Err StepError.NotEnabled }
+        ensures disabled { self.old.broken ≡ false → step self.old.script self.old.state event ≡ None
+            → result ≡ Err StepError.NotEnabled }
         ensures broken { self.old.broken ≡ true → result ≡ Err StepError.Memory }
         ensures same { result ≡ Err StepError.NotEnabled → self.new ≡ self.old }
         ensures err { OnErr result ((self.new ≡ self.old) ⊎ Breaks self.old self.new) }
@@ -141,7 +143,8 @@ impl Core {
         events: &[Event],
     ) -> Result<(), RunError>
         ensures ok { OnOk result (Follows self.old events.now self.new) }
-        ensures refused { (index : ℕ) → IsErrOf result (RunError.NotEnabled index) → IsRefusedAt self.old events.now self.new index }
+        ensures refused { (index : ℕ) → IsErrOf result (RunError.NotEnabled index)
+            → IsRefusedAt self.old events.now self.new index }
         ensures memory { IsErrOf result RunError.Memory → FollowsSome self.old events.now self.new }
         ensures tables { HasSoundTables self.new }
     {
@@ -222,9 +225,12 @@ impl Core {
     pub fn board(&self, server: u8) -> (Pos, &Tree)
         requires declared { is_declared (setting_of self.now.script) server ≡ true }
         ensures at { result.0 ≡ board_of self.now.state server }
-        ensures rows { Agrees (line_after self.now.script.shape (board_of self.now.state server / self.now.script.shape.group)) result.1.now (rows self.now.script.shape self.now.state.log (board_of self.now.state server)) }
-        ensures window_end { (board_of self.now.state server / self.now.script.shape.group) % self.now.script.shape.window ≡ 0 → result.1.now ≡ rows self.now.script.shape self.now.state.log (board_of self.now.state server) }
-        ensures live { live_rows result.1.now ≡ live_rows (rows self.now.script.shape self.now.state.log (board_of self.now.state server)) }
+        ensures rows { Agrees (line_after self.now.script.shape (board_of self.now.state server / self.now.script.shape.group))
+            result.1.now (rows self.now.script.shape self.now.state.log (board_of self.now.state server)) }
+        ensures window_end { (board_of self.now.state server / self.now.script.shape.group) % self.now.script.shape.window ≡ 0
+            → result.1.now ≡ rows self.now.script.shape self.now.state.log (board_of self.now.state server) }
+        ensures live { live_rows result.1.now
+            ≡ live_rows (rows self.now.script.shape self.now.state.log (board_of self.now.state server)) }
     {
         // The shape of a script is good.
         let _shape = self.script.shape();

@@ -8,7 +8,8 @@ ghost use Rattle.hy_rules.specs.History.{pairs_of};
 ghost use Rattle.hy_rules.specs.Moves.{board_of, least_kept, start_at};
 ghost use Rattle.hy_rules.specs.Runs.{may_happen};
 ghost use Rattle.hy_rules.specs.Validation.{live};
-ghost use Rattle.hy_core.specs.CoreParts.{IsHolding, NextFits, StepsTo, TurnsAway, kept_rollers, log_held, newest_upto, snap_or_end, state_in_course};
+ghost use Rattle.hy_core.specs.CoreParts.{IsHolding, NextFits, StepsTo, TurnsAway, kept_rollers, log_held, newest_upto};
+ghost use Rattle.hy_core.specs.CoreParts.{snap_or_end, state_in_course};
 
 use crate::earlier::{Earlier, earlier_of};
 use crate::moves::{between, depart};
@@ -42,7 +43,8 @@ fn put_client_state(client_states: &mut Vec<ClientState>, client: u8, client_sta
 
 // How a program begins on a server, by the position that it asks for, if any: on a snapshot, or it has ended so.
 fn start_at(core: &Parts, server: u8, as_of: Option<Pos>) -> Result<Pos, ProgramEnd>
-    ensures { result ≡ snap_or_end (start_at (least_kept (state_in_course (log_held core.now)) server) (board_of (state_in_course (log_held core.now)) server) as_of) }
+    ensures { result ≡ snap_or_end (start_at (least_kept (state_in_course (log_held core.now)) server)
+        (board_of (state_in_course (log_held core.now)) server) as_of) }
 {
     let board = board_at(core, server);
     let Some(pos) = as_of else {

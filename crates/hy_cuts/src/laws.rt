@@ -6,7 +6,8 @@ pub fn moves_are_blind()
     ensures { MovesAreBlind }
 {}
 
-/// The serial execution may begin past the end of a group, from the live rows there, and the older maps that programs past it read.
+/// The serial execution may begin past the end of a group, from the live rows there, and the older maps that
+/// programs past it read.
 pub fn serial_from_base()
     ensures { SerialFromBase }
 {}

@@ -7,7 +7,8 @@
 //! holds of it. The laws for runs of several calls are in `proofs/`, proved from the trait's definitions alone.
 #![tactic(auto)]
 
-ghost use Rattle.std.specs.Prelude.{◌≡◌, ◌+◌, ◌-◌, ◌^◌, ◌<◌, ◌≤◌, ℕ, Bool, List, length, min, IsTrue, IsOk, IsErr, IfOk, OnOk, OnErr};
+ghost use Rattle.std.specs.Prelude.{◌≡◌, ◌+◌, ◌-◌, ◌^◌, ◌<◌, ◌≤◌, ℕ, Bool, List, length, min, IsTrue, IsOk, IsErr, IfOk, OnOk};
+ghost use Rattle.std.specs.Prelude.{OnErr};
 ghost use Rattle.hy_base.specs.Faults.{HasCause};
 ghost use Rattle.hy_disk.specs.Content.{Content, Image, settled, with_pending, AfterFailedWrite, read_into};
 ghost use Rattle.hy_disk.specs.Moments.{Elapses};
@@ -52,7 +53,8 @@ pub trait Disk {
     fn len(&mut self) -> Result<u64, Failed>
         ensures len { IsTrue tells → IfOk result (λ n. n ≡ length (content self.old).seen) }
         ensures same { content self.new ≡ content self.old }
-        ensures time { Elapses (moment self.old) (moment self.new) (left_since self.old) (left_since self.new) (content self.new) }
+        ensures time { Elapses (moment self.old) (moment self.new) (left_since self.old) (left_since self.new)
+            (content self.new) }
         ensures cause { HasCause (faults_of self.old) (faults_of self.new) result }
 
         // Within its room it doesn't fail and takes none. After an ordered failure it fails.
@@ -67,9 +69,11 @@ pub trait Disk {
     /// `Failed`: a fault. The device is as it was, and the buffer may hold anything.
     fn read(&mut self, place: u64, into: &mut [u8]) -> Result<usize, Failed>
         ensures count { IfOk result (λ n. n ≤ length into.old) }
-        ensures bytes { IsTrue tells → IfOk result (λ n. (n ≡ min (length into.old) (length (content self.old).seen - place)) × (into.new ≡ read_into (content self.old).seen place into.old)) }
+        ensures bytes { IsTrue tells → IfOk result (λ n. (n ≡ min (length into.old) (length (content self.old).seen - place))
+            × (into.new ≡ read_into (content self.old).seen place into.old)) }
         ensures same { content self.new ≡ content self.old }
-        ensures time { Elapses (moment self.old) (moment self.new) (left_since self.old) (left_since self.new) (content self.new) }
+        ensures time { Elapses (moment self.old) (moment self.new) (left_since self.old) (left_since self.new)
+            (content self.new) }
         ensures cause { HasCause (faults_of self.old) (faults_of self.new) result }
 
         // Within its room it doesn't fail and takes none. After an ordered failure it fails.
@@ -86,9 +90,11 @@ pub trait Disk {
         requires within { IsTrue tells → place ≤ length (content self.old).seen }
         requires fits { place + length bytes.now < 2 ^ 64 }
         ensures written { IsTrue tells → OnOk result (content self.new ≡ with_pending (content self.old) place bytes.now) }
-        ensures torn { IsTrue tells → OnErr result (AfterFailedWrite (content self.old) place (length bytes.now) (content self.new)) }
+        ensures torn { IsTrue tells
+            → OnErr result (AfterFailedWrite (content self.old) place (length bytes.now) (content self.new)) }
         ensures no_shorter { IsTrue tells → length (content self.old).seen ≤ length (content self.new).seen }
-        ensures time { Elapses (moment self.old) (moment self.new) (left_since self.old) (left_since self.new) (content self.new) }
+        ensures time { Elapses (moment self.old) (moment self.new) (left_since self.old) (left_since self.new)
+            (content self.new) }
         ensures cause { HasCause (faults_of self.old) (faults_of self.new) result }
 
         // It takes one call of the room, and its bytes.
@@ -99,7 +105,8 @@ pub trait Disk {
         ensures stays_struck { strikes self.old 0 → strikes self.new 0 }
         ensures unarmed { IsUnarmed (strikes self.old) → IsUnarmed (strikes self.new) }
         ensures struck { (k : ℕ) → k ≤ 1 → strikes self.old k → IsErr result }
-        ensures done { IsTrue tells → strikes self.old 1 → (k : ℕ) → has_room self.old k (length bytes.now) → content self.new ≡ with_pending (content self.old) place bytes.now };
+        ensures done { IsTrue tells → strikes self.old 1 → (k : ℕ) → has_room self.old k (length bytes.now)
+            → content self.new ≡ with_pending (content self.old) place bytes.now };
 
     /// Makes what a read gives stable: after it a crash leaves exactly that.
     ///
@@ -108,7 +115,8 @@ pub trait Disk {
         ensures synced { IsTrue tells → OnOk result (content self.new ≡ settled (content self.old).seen) }
         ensures unsynced { OnErr result (content self.new ≡ content self.old) }
         ensures seen { (content self.new).seen ≡ (content self.old).seen }
-        ensures time { Elapses (moment self.old) (moment self.new) (left_since self.old) (left_since self.new) (content self.new) }
+        ensures time { Elapses (moment self.old) (moment self.new) (left_since self.old) (left_since self.new)
+            (content self.new) }
         ensures cause { HasCause (faults_of self.old) (faults_of self.new) result }
 
         // It takes one call of the room.
@@ -128,7 +136,8 @@ pub trait Disk {
     ghost seen_may_stay: { (disk : Self) → IsTrue tells → Image (content disk) (content disk).seen };
 
     /// A crash now is a crash since each earlier moment.
-    ghost counts_now: { (disk : Self) (t : ℕ) (image : List ℕ) → IsTrue tells → t ≤ moment disk → Image (content disk) image → left_since disk t image };
+    ghost counts_now: { (disk : Self) (t : ℕ) (image : List ℕ) → IsTrue tells → t ≤ moment disk → Image (content disk) image
+        → left_since disk t image };
 
     /// A crash since now is a crash now.
     ghost only_now: { (disk : Self) (image : List ℕ) → left_since disk (moment disk) image → Image (content disk) image };
@@ -145,13 +154,16 @@ pub trait Tuned: Disk {
     ///
     /// Running out of memory leaves the device with the room that it had, or more.
     fn room(&mut self, bytes: usize, calls: usize) -> Result<(), AllocError>
-        ensures room { OnOk result (IsUnarmed (Self.Disk.strikes self.old) → Self.Disk.has_room self.old 0 0 → Self.Disk.has_room self.new calls bytes) }
-        ensures before { OnOk result ((k : ℕ) → Self.Disk.strikes self.old (k + 1) → Self.Disk.has_room self.old 0 0 → Self.Disk.has_room self.new (min (calls - 1) k) bytes) }
+        ensures room { OnOk result (IsUnarmed (Self.Disk.strikes self.old) → Self.Disk.has_room self.old 0 0
+            → Self.Disk.has_room self.new calls bytes) }
+        ensures before { OnOk result ((k : ℕ) → Self.Disk.strikes self.old (k + 1) → Self.Disk.has_room self.old 0 0
+            → Self.Disk.has_room self.new (min (calls - 1) k) bytes) }
         ensures keeps { (k b : ℕ) → Self.Disk.has_room self.old k b → Self.Disk.has_room self.new k b }
         ensures strikes { (k : ℕ) → Self.Disk.strikes self.old k → Self.Disk.strikes self.new k }
         ensures unarmed { IsUnarmed (Self.Disk.strikes self.old) → IsUnarmed (Self.Disk.strikes self.new) }
         ensures same { Self.Disk.content self.new ≡ Self.Disk.content self.old }
-        ensures time { Elapses (Self.Disk.moment self.old) (Self.Disk.moment self.new) (Self.Disk.left_since self.old) (Self.Disk.left_since self.new) (Self.Disk.content self.new) }
+        ensures time { Elapses (Self.Disk.moment self.old) (Self.Disk.moment self.new) (Self.Disk.left_since self.old)
+            (Self.Disk.left_since self.new) (Self.Disk.content self.new) }
         ensures faults { Self.Disk.faults_of self.new ≡ Self.Disk.faults_of self.old };
 
     /// Orders that the k-th write or sync from now on fails, and every call after it, in place of what was ordered before.
@@ -161,6 +173,7 @@ pub trait Tuned: Disk {
         ensures strikes { Self.Disk.strikes self.new k }
         ensures room { (b : ℕ) → Self.Disk.has_room self.old k b → Self.Disk.has_room self.new (k - 1) b }
         ensures same { Self.Disk.content self.new ≡ Self.Disk.content self.old }
-        ensures time { Elapses (Self.Disk.moment self.old) (Self.Disk.moment self.new) (Self.Disk.left_since self.old) (Self.Disk.left_since self.new) (Self.Disk.content self.new) }
+        ensures time { Elapses (Self.Disk.moment self.old) (Self.Disk.moment self.new) (Self.Disk.left_since self.old)
+            (Self.Disk.left_since self.new) (Self.Disk.content self.new) }
         ensures faults { Self.Disk.faults_of self.new ≡ Self.Disk.faults_of self.old };
 }

@@ -12,7 +12,10 @@ use Rattle.hy_entries.specs.declared.listing.Listing.TheVariants as listing
 
 -- the bodies past a position spell entries, and just these were taken
 abbrev pub IsRead : Bool → Shape → ℕ → List (List ℕ) → (List EntryKind → Type 0) → Type 0
-IsRead tells s after bodies took = (entries : List EntryKind) × AreFoundIn tells (record { shape = s; from = after }) bodies entries × took entries
+IsRead tells s after bodies took =
+    (entries : List EntryKind)
+    × AreFoundIn tells (record { shape = s; from = after }) bodies entries
+    × took entries
 
 -- the entries past a position were taken, or the first position is told that is refused
 abbrev pub IsListing : Bool → Shape → ℕ → List (List ℕ) → (List EntryKind → Type 0) → Listing → Type 0
@@ -26,7 +29,8 @@ behind entries (Ok more) = Ok (entries ++ more)
 behind entries (Err e) = Err e
 
 -- these are the entries of the first bodies
-pub record IsReadSoFar (tells : Bool) (s : Shape) (from : ℕ) (bodies : List (List ℕ)) (entries : List EntryKind) (count : ℕ) : Type 0 where
+pub record IsReadSoFar (tells : Bool) (s : Shape) (from : ℕ) (bodies : List (List ℕ)) (entries : List EntryKind)
+    (count : ℕ) : Type 0 where
   pub counts : length entries ≡ count
   pub lawful : HaveLawfulSnaps s from entries
   pub sound : AllByRecursion (IsSoundEntry s.version) entries

@@ -13,7 +13,8 @@ use Rattle.hy_disk.specs.Moments.{LeavesOnly}
 use Rattle.hy_entries.specs.declared.reading.EntriesError.{EntriesError}
 use Rattle.hy_entries.specs.declared.reading.EntriesError.TheVariants as reading
 
--- The entries of these bodies past a header's position, as many as the bodies, all lawful there, and each read again from its spelling. Where the device doesn't tell its bytes, the bodies mean nothing.
+-- The entries of these bodies past a header's position, as many as the bodies, all lawful there, and each read again from its
+-- spelling. Where the device doesn't tell its bytes, the bodies mean nothing.
 pub record AreFoundIn (tells : Bool) (h : Header) (bodies : List (List ℕ)) (entries : List EntryKind) : Type 0 where
   pub read : IsTrue tells → entries_past h.shape h.from bodies ≡ Ok entries
   pub spelled : IsTrue tells → bodies ≡ map (spelling h.shape.version) entries
@@ -29,7 +30,8 @@ RefusesEntry (reading.BadEntry pos bad) read = read ≡ Err (pos, bad)
 
 -- The device's content stays, a crash at any moment leaves what a crash before leaves, the device is blamed only where its
 -- count of faults rose and never within its room, and no room is taken.
-pub record OnlyLooks {D T : Type 0} (content : D → Content) (moment : D → ℕ) (left_since : D → ℕ → List ℕ → Type 0) (faults_of : D → ℕ) (has_room : D → ℕ → ℕ → Type 0) (old new : D) (result : Result T EntriesError) : Type 0 where
+pub record OnlyLooks {D T : Type 0} (content : D → Content) (moment : D → ℕ) (left_since : D → ℕ → List ℕ → Type 0)
+    (faults_of : D → ℕ) (has_room : D → ℕ → ℕ → Type 0) (old new : D) (result : Result T EntriesError) : Type 0 where
   pub same : content new ≡ content old
   pub quiet : LeavesOnly moment left_since old new (Image (content old))
   pub later : faults_of old ≤ faults_of new

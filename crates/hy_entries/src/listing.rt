@@ -39,12 +39,18 @@ fn read_entry<D: Disk>(
     requires first { log.old.from < pos }
     requires last { pos ≤ position_count log.old }
     requires space { length buffer.old ≡ longest_record }
-    ensures exact { IsTrue D.tells → IfOk result (λ read. (body : List ℕ) → nth log.old.bodies (pos - log.old.from) ≡ Some body → Decodes read (decoded_at log.old.shape pos body)) }
+    ensures exact { IsTrue D.tells → IfOk result (λ read. (body : List ℕ) → nth log.old.bodies (pos - log.old.from) ≡ Some body
+        → Decodes read (decoded_at log.old.shape pos body)) }
     ensures lawful { IfOk result (λ read. IfOk read (HasLawfulSnap log.old.shape pos)) }
     ensures sound { IfOk result (λ read. IfOk read (IsSoundEntry log.old.shape.version)) }
-    ensures spelled { IsTrue D.tells → IfOk result (λ read. IfOk read (λ entry. nth log.old.bodies (pos - log.old.from) ≡ Some (spelling log.old.shape.version entry))) }
+    ensures spelled { IsTrue D.tells → IfOk result (λ read.
+        IfOk read (λ entry. nth log.old.bodies (pos - log.old.from) ≡ Some (spelling log.old.shape.version entry))) }
     ensures space { length buffer.new ≡ length buffer.old }
-    ensures same { (log.new.shape ≡ log.old.shape) × (log.new.stopped ≡ log.old.stopped) × (log.new.batch ≡ log.old.batch) × (log.new.spare ≡ log.old.spare) × (log.new.from ≡ log.old.from) }
+    ensures same { (log.new.shape ≡ log.old.shape)
+        × (log.new.stopped ≡ log.old.stopped)
+        × (log.new.batch ≡ log.old.batch)
+        × (log.new.spare ≡ log.old.spare)
+        × (log.new.from ≡ log.old.from) }
     ensures bodies { log.new.bodies ≡ log.old.bodies }
     ensures look { IsLook D.content D.moment D.left_since D.faults_of D.has_room log.old.disk log.new.disk result }
 {
@@ -72,8 +78,13 @@ pub fn hand_over<D: Disk, R: Receiver>(
     requires last { after ≤ position_count log.old }
     requires takes { R.takes receiver.old log.old.shape.version }
     requires space { length buffer.old ≡ longest_record }
-    ensures listing { IfOk result (IsListing D.tells log.old.shape after (drop (after - log.old.from) log.old.bodies) (R.took receiver.old receiver.new after)) }
-    ensures same { (log.new.shape ≡ log.old.shape) × (log.new.stopped ≡ log.old.stopped) × (log.new.batch ≡ log.old.batch) × (log.new.spare ≡ log.old.spare) × (log.new.from ≡ log.old.from) }
+    ensures listing { IfOk result (IsListing D.tells log.old.shape after (drop (after - log.old.from) log.old.bodies)
+        (R.took receiver.old receiver.new after)) }
+    ensures same { (log.new.shape ≡ log.old.shape)
+        × (log.new.stopped ≡ log.old.stopped)
+        × (log.new.batch ≡ log.old.batch)
+        × (log.new.spare ≡ log.old.spare)
+        × (log.new.from ≡ log.old.from) }
     ensures bodies { log.new.bodies ≡ log.old.bodies }
     ensures look { IsLook D.content D.moment D.left_since D.faults_of D.has_room log.old.disk log.new.disk result }
 {

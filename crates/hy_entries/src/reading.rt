@@ -36,8 +36,8 @@ fn zeros(alloc: Global) -> Result<Vec<u8>, AllocError>
     vec![in alloc; 0; LONGEST_RECORD]
 }
 
-/// Hands over the entries of a log past a position at or past that where it was cut: what its bodies spell there, in order. Each
-/// of these bodies is read once.
+/// Hands over the entries of a log past a position at or past that where it was cut: what its bodies spell there, in order.
+/// Each of these bodies is read once.
 ///
 /// `BadEntry`: the first position whose body is refused, and why. `Device`: the device failed. `Memory`: out of
 /// memory. The log is as it was, whatever comes of it; the receiver may have taken some of the entries.
@@ -50,9 +50,15 @@ pub fn read_into<D: Disk, R: Receiver>(
     requires first { log.old.from ≤ after }
     requires last { after ≤ position_count log.old }
     requires takes { R.takes receiver.old log.old.shape.version }
-    ensures read { IfOk result (λ _. IsRead D.tells log.old.shape after (drop (after - log.old.from) log.old.bodies) (R.took receiver.old receiver.new after)) }
-    ensures refused { IsTrue D.tells → IfErr result (λ error. RefusesEntry error (entries_past log.old.shape after (drop (after - log.old.from) log.old.bodies))) }
-    ensures same { (log.new.shape ≡ log.old.shape) × (log.new.stopped ≡ log.old.stopped) × (log.new.batch ≡ log.old.batch) × (log.new.spare ≡ log.old.spare) × (log.new.from ≡ log.old.from) }
+    ensures read { IfOk result (λ _. IsRead D.tells log.old.shape after (drop (after - log.old.from) log.old.bodies)
+        (R.took receiver.old receiver.new after)) }
+    ensures refused { IsTrue D.tells → IfErr result (λ error.
+        RefusesEntry error (entries_past log.old.shape after (drop (after - log.old.from) log.old.bodies))) }
+    ensures same { (log.new.shape ≡ log.old.shape)
+        × (log.new.stopped ≡ log.old.stopped)
+        × (log.new.batch ≡ log.old.batch)
+        × (log.new.spare ≡ log.old.spare)
+        × (log.new.from ≡ log.old.from) }
     ensures bodies { log.new.bodies ≡ log.old.bodies }
     ensures look { OnlyLooks D.content D.moment D.left_since D.faults_of D.has_room log.old.disk log.new.disk result }
 {
@@ -75,9 +81,15 @@ pub fn entries_past<D: Disk>(
 ) -> Result<Vec<Entry>, EntriesError>
     requires first { log.old.from ≤ after }
     requires last { after ≤ position_count log.old }
-    ensures read { IfOk result (λ entries. AreFoundIn D.tells (record { shape = log.old.shape; from = after }) (drop (after - log.old.from) log.old.bodies) entries.items) }
-    ensures refused { IsTrue D.tells → IfErr result (λ error. RefusesEntry error (entries_past log.old.shape after (drop (after - log.old.from) log.old.bodies))) }
-    ensures same { (log.new.shape ≡ log.old.shape) × (log.new.stopped ≡ log.old.stopped) × (log.new.batch ≡ log.old.batch) × (log.new.spare ≡ log.old.spare) × (log.new.from ≡ log.old.from) }
+    ensures read { IfOk result (λ entries. AreFoundIn D.tells (record { shape = log.old.shape; from = after })
+        (drop (after - log.old.from) log.old.bodies) entries.items) }
+    ensures refused { IsTrue D.tells → IfErr result (λ error.
+        RefusesEntry error (entries_past log.old.shape after (drop (after - log.old.from) log.old.bodies))) }
+    ensures same { (log.new.shape ≡ log.old.shape)
+        × (log.new.stopped ≡ log.old.stopped)
+        × (log.new.batch ≡ log.old.batch)
+        × (log.new.spare ≡ log.old.spare)
+        × (log.new.from ≡ log.old.from) }
     ensures bodies { log.new.bodies ≡ log.old.bodies }
     ensures look { OnlyLooks D.content D.moment D.left_since D.faults_of D.has_room log.old.disk log.new.disk result }
 {
@@ -89,8 +101,13 @@ pub fn entries_past<D: Disk>(
 /// The entries of a log past the position where it was cut, by [`entries_past`].
 pub fn entries_of<D: Disk>(alloc: Global, log: &mut PageLog<D>) -> Result<Vec<Entry>, EntriesError>
     ensures read { IfOk result (λ entries. AreFoundIn D.tells (header_of log.old) log.old.bodies entries.items) }
-    ensures refused { IsTrue D.tells → IfErr result (λ error. RefusesEntry error (entries_past log.old.shape log.old.from log.old.bodies)) }
-    ensures same { (log.new.shape ≡ log.old.shape) × (log.new.stopped ≡ log.old.stopped) × (log.new.batch ≡ log.old.batch) × (log.new.spare ≡ log.old.spare) × (log.new.from ≡ log.old.from) }
+    ensures refused { IsTrue D.tells
+        → IfErr result (λ error. RefusesEntry error (entries_past log.old.shape log.old.from log.old.bodies)) }
+    ensures same { (log.new.shape ≡ log.old.shape)
+        × (log.new.stopped ≡ log.old.stopped)
+        × (log.new.batch ≡ log.old.batch)
+        × (log.new.spare ≡ log.old.spare)
+        × (log.new.from ≡ log.old.from) }
     ensures bodies { log.new.bodies ≡ log.old.bodies }
     ensures look { OnlyLooks D.content D.moment D.left_since D.faults_of D.has_room log.old.disk log.new.disk result }
 {
@@ -104,8 +121,13 @@ pub fn shared_entries_of<D: Disk>(
     log: &mut PageLog<D>,
 ) -> Result<Vec<Shared<Entry>>, EntriesError>
     ensures read { IfOk result (λ entries. AreFoundIn D.tells (header_of log.old) log.old.bodies entries.items) }
-    ensures refused { IsTrue D.tells → IfErr result (λ error. RefusesEntry error (entries_past log.old.shape log.old.from log.old.bodies)) }
-    ensures same { (log.new.shape ≡ log.old.shape) × (log.new.stopped ≡ log.old.stopped) × (log.new.batch ≡ log.old.batch) × (log.new.spare ≡ log.old.spare) × (log.new.from ≡ log.old.from) }
+    ensures refused { IsTrue D.tells
+        → IfErr result (λ error. RefusesEntry error (entries_past log.old.shape log.old.from log.old.bodies)) }
+    ensures same { (log.new.shape ≡ log.old.shape)
+        × (log.new.stopped ≡ log.old.stopped)
+        × (log.new.batch ≡ log.old.batch)
+        × (log.new.spare ≡ log.old.spare)
+        × (log.new.from ≡ log.old.from) }
     ensures bodies { log.new.bodies ≡ log.old.bodies }
     ensures look { OnlyLooks D.content D.moment D.left_since D.faults_of D.has_room log.old.disk log.new.disk result }
 {
@@ -122,9 +144,15 @@ pub fn shared_entries_of<D: Disk>(
 ///
 /// The errors are those of [`entries_past`]. The log is as it was, whatever comes of it.
 pub fn judge_entries<D: Disk>(alloc: Global, log: &mut PageLog<D>) -> Result<(), EntriesError>
-    ensures read { IfOk result (λ _. (entries : List EntryKind) × AreFoundIn D.tells (header_of log.old) log.old.bodies entries) }
-    ensures refused { IsTrue D.tells → IfErr result (λ error. RefusesEntry error (entries_past log.old.shape log.old.from log.old.bodies)) }
-    ensures same { (log.new.shape ≡ log.old.shape) × (log.new.stopped ≡ log.old.stopped) × (log.new.batch ≡ log.old.batch) × (log.new.spare ≡ log.old.spare) × (log.new.from ≡ log.old.from) }
+    ensures read { IfOk result (λ _. (entries : List EntryKind)
+        × AreFoundIn D.tells (header_of log.old) log.old.bodies entries) }
+    ensures refused { IsTrue D.tells
+        → IfErr result (λ error. RefusesEntry error (entries_past log.old.shape log.old.from log.old.bodies)) }
+    ensures same { (log.new.shape ≡ log.old.shape)
+        × (log.new.stopped ≡ log.old.stopped)
+        × (log.new.batch ≡ log.old.batch)
+        × (log.new.spare ≡ log.old.spare)
+        × (log.new.from ≡ log.old.from) }
     ensures bodies { log.new.bodies ≡ log.old.bodies }
     ensures look { OnlyLooks D.content D.moment D.left_since D.faults_of D.has_room log.old.disk log.new.disk result }
 {

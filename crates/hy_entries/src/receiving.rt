@@ -18,7 +18,9 @@ pub trait Receiver {
     fn take(&mut self, pos: Pos, entry: Entry) -> Result<(), AllocError>
         requires { (version : ℕ) × takes self.old version × IsSoundEntry version entry }
         ensures takes { OnOk result ((version : ℕ) → takes self.old version → takes self.new version) }
-        ensures taken { OnOk result ((start : Self) (from : ℕ) (entries : List EntryKind) → took start self.old from entries → pos ≡ from + length entries + 1 → took start self.new from (entries ++ entry ∷ [])) };
+        ensures taken { OnOk result ((start : Self) (from : ℕ) (entries : List EntryKind)
+            → took start self.old from entries → pos ≡ from + length entries + 1
+            → took start self.new from (entries ++ entry ∷ [])) };
 
     /// It has made nothing of no entries.
     ghost took_none: { (receiver : Self) (from : ℕ) → took receiver receiver from [] };

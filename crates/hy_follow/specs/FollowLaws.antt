@@ -13,7 +13,10 @@ use Rattle.hy_follow.specs.Following.{Following, HasFollowed}
 
 -- The stream of a lawful log is whole, and tells its shape and its entries.
 abbrev pub StreamIsFollowed : Type 0
-StreamIsFollowed = (s : Shape) (entries : List EntryKind) → IsGoodShape s → IsLawful s entries → AllByRecursion (IsSoundEntry s.version) entries → streamed (stream_bytes s entries) ≡ Ok (Some s, entries)
+StreamIsFollowed =
+    (s : Shape) (entries : List EntryKind)
+    → IsGoodShape s → IsLawful s entries → AllByRecursion (IsSoundEntry s.version) entries
+    → streamed (stream_bytes s entries) ≡ Ok (Some s, entries)
 
 -- However a stream is cut into pieces, what is held then is decided by its bytes.
 abbrev pub OneFollower : Type 0
@@ -26,4 +29,6 @@ pub record IsDecided (entries : List EntryKind) (r : Roll) : Type 0 where
 
 -- A follower has what the entries decide whose whole frames came.
 abbrev pub FollowerDecides : Type 0
-FollowerDecides = (bytes : List ℕ) (f : Following) (r : Roll) → HasFollowed bytes f → f.roll ≡ Some r → IsDecided (came bytes).entries r
+FollowerDecides =
+    (bytes : List ℕ) (f : Following) (r : Roll) → HasFollowed bytes f → f.roll ≡ Some r
+    → IsDecided (came bytes).entries r

@@ -1,5 +1,6 @@
 -- What a follower is after the first bytes of a stream.
-use Rattle.std.specs.Prelude.{◌≡◌, ℕ, ◌+◌, ◌≤◌, List, [], length, take, drop, Option, Some, None, IfSome, Result, Ok, Err, nat_le, ◌==◌, if◌then◌else◌}
+use Rattle.std.specs.Prelude.{◌≡◌, ℕ, ◌+◌, ◌≤◌, List, [], length, take, drop, Option, Some, None, IfSome, Result, Ok, Err}
+use Rattle.std.specs.Prelude.{nat_le, ◌==◌, if◌then◌else◌}
 use Rattle.std.specs.Option.{is_some}
 use Rattle.hy_base.specs.declared.layout.Shape.{Shape}
 use Rattle.hy_base.specs.declared.record.EntryKind.{EntryKind}
@@ -15,7 +16,8 @@ use Rattle.hy_roller.specs.declared.roller.Told.{Told}
 use Rattle.hy_roller.specs.declared.roller.Told.TheVariants.{NotYet, Past}
 use Rattle.hy_roller.specs.Telling.{told}
 
--- The roller, once the header was taken, and the entries past its position. Behind these begins, at this place of the stream, the header or frame that isn't whole, of which these bytes came. The first header or frame that is refused.
+-- The roller, once the header was taken, and the entries past its position. Behind these begins, at this place of the stream,
+-- the header or frame that isn't whole, of which these bytes came. The first header or frame that is refused.
 pub record Following : Type 0 where
   pub roll : Option Roll
   pub rest : List EntryKind

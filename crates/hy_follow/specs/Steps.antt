@@ -1,5 +1,6 @@
 -- How a follower takes the bytes of a stream: it is what the format says of them, with the entries rolled as they come.
-use Rattle.std.specs.Prelude.{◌≡◌, ℕ, ◌+◌, ◌*◌, ◌<◌, ◌≤◌, List, [], ◌∷◌, ◌++◌, length, take, drop, Option, Some, None, IfSome, Result, Ok, Err, nat_lt, ◌==◌, if◌then◌else◌}
+use Rattle.std.specs.Prelude.{◌≡◌, ℕ, ◌+◌, ◌*◌, ◌<◌, ◌≤◌, List, [], ◌∷◌, ◌++◌, length, take, drop, Option, Some, None, IfSome}
+use Rattle.std.specs.Prelude.{Result, Ok, Err, nat_lt, ◌==◌, if◌then◌else◌}
 use Rattle.hy_base.specs.declared.layout.Shape.{Shape}
 use Rattle.hy_base.specs.declared.record.EntryKind.{EntryKind}
 use Rattle.hy_base.specs.Shape.{IsGoodShape, whole_groups}
@@ -64,7 +65,8 @@ after_length f None = f
 after_length f (Some why) = with_fault f (record { place = f.place; why = why })
 
 abbrev pub after_body : Following → Result EntryKind BadEntry → Following
-after_body f (Ok entry) = record { roll = f.roll; rest = f.rest ++ entry ∷ []; place = f.place + length f.waiting; waiting = []; bad = None }
+after_body f (Ok entry) =
+    record { roll = f.roll; rest = f.rest ++ entry ∷ []; place = f.place + length f.waiting; waiting = []; bad = None }
 after_body f (Err bad) = with_fault f (record { place = f.place + 4 + bad.place; why = bad.why })
 
 abbrev pub after_frame : Shape → Following → Following
@@ -85,7 +87,13 @@ abbrev pub rolled_by : Option Roll → Following → Following
 rolled_by None f = f
 rolled_by (Some r) f =
     let whole = whole_groups r.shape (length f.rest) in
-    record { roll = Some (roll_on r (take whole f.rest)); rest = drop whole f.rest; place = f.place; waiting = f.waiting; bad = f.bad }
+    record {
+      roll = Some (roll_on r (take whole f.rest));
+      rest = drop whole f.rest;
+      place = f.place;
+      waiting = f.waiting;
+      bad = f.bad;
+    }
 
 -- the whole groups of its entries are rolled
 abbrev pub after_rolling : Following → Following
@@ -99,4 +107,6 @@ TakesAll f bytes g = (c : Streamed) → HoldsWhatCame c f → HoldsWhatCame (tak
 
 -- The same, with more bytes to be taken then.
 abbrev pub TakesSome : Following → List ℕ → Following → List ℕ → Type 0
-TakesSome f bytes g more = (c : Streamed) → HoldsWhatCame c f → (d : Streamed) × HoldsWhatCame d g × (taken d more ≡ taken c bytes)
+TakesSome f bytes g more =
+    (c : Streamed) → HoldsWhatCame c f
+    → (d : Streamed) × HoldsWhatCame d g × (taken d more ≡ taken c bytes)

@@ -3,7 +3,8 @@ ghost use Rattle.std.specs.Prelude.{◌≡◌, ◌+◌, ◌++◌, List, ℕ, [],
 ghost use Rattle.hy_formats.specs.declared.damage.BadFrame.{BadFrame};
 ghost use Rattle.hy_formats.specs.StreamFormat.{came, streamed, unless_bad};
 ghost use Rattle.hy_rules.specs.History.{live_rows, pairs_of};
-ghost use Rattle.hy_follow.specs.Following.{HasFollowed, IsRowsOf, answer_with, end_of, came_count, nothing_followed, rows_held, shape_of, told_by_roll, upto, verdicts_held};
+ghost use Rattle.hy_follow.specs.Following.{HasFollowed, IsRowsOf, answer_with, end_of, came_count, nothing_followed};
+ghost use Rattle.hy_follow.specs.Following.{rows_held, shape_of, told_by_roll, upto, verdicts_held};
 ghost use Rattle.hy_follow.specs.Steps.{IsJudged};
 ghost use Rattle.hy_follow.specs.declared.follower.FeedError.TheVariants as feeding;
 
@@ -65,7 +66,8 @@ fn fed<R: Threads + Sync, G: Gate + Sync>(
 ) -> Result<Intake, AllocError>
     requires ready { IsJudged held.now }
     ensures ready { IfOk result IsJudged }
-    ensures taken { IfOk result (λ next. (bytes : List ℕ) → HasFollowed bytes held.now → HasFollowed (bytes ++ piece.now) next) }
+    ensures taken { IfOk result (λ next. (bytes : List ℕ) → HasFollowed bytes held.now
+        → HasFollowed (bytes ++ piece.now) next) }
 {
     let mut next = held.share(runtime.alloc)?;
     next.take(runtime, piece)?;
@@ -96,10 +98,12 @@ impl Follower {
         runtime: &Runtime<R, G>,
         piece: &[u8],
     ) -> Result<(), FeedError>
-        ensures taken { (bytes : List ℕ) → HasFollowed bytes self.old → (result ≡ Err feeding.Memory → ⊥) → HasFollowed (bytes ++ piece.now) self.new }
+        ensures taken { (bytes : List ℕ) → HasFollowed bytes self.old → (result ≡ Err feeding.Memory → ⊥)
+            → HasFollowed (bytes ++ piece.now) self.new }
         ensures fine { OnOk result (self.new.bad ≡ None) }
         ensures refused { (bad : BadFrame) → result ≡ Err (feeding.BadFrame bad) → self.new.bad ≡ Some bad }
-        ensures again { (bad : BadFrame) → self.old.bad ≡ Some bad → (result ≡ Err (feeding.BadFrame bad)) × (self.new ≡ self.old) }
+        ensures again { (bad : BadFrame) → self.old.bad ≡ Some bad
+            → (result ≡ Err (feeding.BadFrame bad)) × (self.new ≡ self.old) }
         ensures untouched { result ≡ Err feeding.Memory → self.new ≡ self.old }
     {
         if let Some(bad) = self.held.bad() {
@@ -121,7 +125,8 @@ impl Follower {
     /// `BadFrame`: the header or frame that was refused, or else, as `Short`, the place of the one that isn't whole.
     pub fn finish(&self) -> Result<(), BadFrame>
         ensures exact { result ≡ unless_bad (end_of self.now) tt }
-        ensures whole { (bytes : List ℕ) → HasFollowed bytes self.now → streamed bytes ≡ answer_with ((came bytes).shape, (came bytes).entries) result }
+        ensures whole { (bytes : List ℕ) → HasFollowed bytes self.now
+            → streamed bytes ≡ answer_with ((came bytes).shape, (came bytes).entries) result }
     {
         match self.held.end() {
             None => Ok(()),

@@ -1,4 +1,5 @@
-//! The header of a stream: the magic, the shape with its version first, and zeros in the place of a horizon where there is none.
+//! The header of a stream: the magic, the shape with its version first, and zeros in the place of a horizon
+//! where there is none.
 ghost use Rattle.std.specs.Prelude.{◌≡◌, ◌≤◌, ◌&&◌, ◌||◌, is_ok, length, take, drop, codes, bytes_eq, IfOk};
 ghost use Rattle.hy_base.specs.Shape.{shape_fault, IsGoodShape, has_horizon};
 ghost use Rattle.hy_formats.specs.LogFormat.{are_zeros, byte_at};
@@ -48,7 +49,8 @@ fn streamed_shape(head: &[u8]) -> Shape
 // Whether a header's shape is in range, with zeros where there is no horizon.
 fn has_shape(head: &[u8], shape: Shape) -> bool
     requires { 19 ≤ length head.now }
-    ensures { result ≡ (is_ok (shape_fault shape) && (has_horizon (byte_at head.now 8) || are_zeros (take 4 (drop 15 head.now)))) }
+    ensures { result
+        ≡ (is_ok (shape_fault shape) && (has_horizon (byte_at head.now 8) || are_zeros (take 4 (drop 15 head.now)))) }
 {
     if shape.check().is_err() {
         return false;

@@ -4,7 +4,8 @@ ghost use Rattle.hy_base.specs.Shape.{IsGoodShape, whole_groups};
 ghost use Rattle.hy_formats.specs.EntryFormat.{decoded_at};
 ghost use Rattle.hy_formats.specs.StreamFormat.{head_judged, length_fault, told_length};
 ghost use Rattle.hy_follow.specs.Following.{nothing_followed, upto, shape_of, came_count, end_of};
-ghost use Rattle.hy_follow.specs.Steps.{due, IsSized, IsAwaited, IsJudged, TakesAll, TakesSome, after_head, after_length, after_body, after_frame, after_judging, after_rolling, holding, longest_frame};
+ghost use Rattle.hy_follow.specs.Steps.{due, IsSized, IsAwaited, IsJudged, TakesAll, TakesSome, after_head, after_length};
+ghost use Rattle.hy_follow.specs.Steps.{after_body, after_frame, after_judging, after_rolling, holding, longest_frame};
 
 use crate::framing::{length_fault, told_length};
 use crate::heading::judge_head;
@@ -35,7 +36,8 @@ impl Model for Intake {
 
     ghost Value = { Following };
 
-    ghost view = { λ h. record { roll = h.roller; rest = h.rest.items; place = h.place; waiting = h.waiting.items; bad = h.bad } };
+    ghost view = { λ h.
+        record { roll = h.roller; rest = h.rest.items; place = h.place; waiting = h.waiting.items; bad = h.bad } };
 }
 
 // How many entries are held at most before their whole groups are rolled: those of the largest window.
@@ -226,7 +228,8 @@ impl Intake {
         requires sized { IsSized self.old }
         requires whole { 4 ≤ length self.old.waiting }
         requires few { length self.old.waiting ≤ longest_frame }
-        ensures { OnOk result (self.new ≡ after_body self.old (decoded_at shape (came_count self.old + 1) (drop 4 self.old.waiting))) }
+        ensures { OnOk result (self.new
+            ≡ after_body self.old (decoded_at shape (came_count self.old + 1) (drop 4 self.old.waiting))) }
     {
         let pos = self.count() + 1;
         match read_body(alloc, shape, pos, &self.waiting[4..])? {

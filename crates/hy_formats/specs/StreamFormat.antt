@@ -1,6 +1,9 @@
--- The stream of a log: a header of 19 bytes, and behind it each entry in a frame, the length of its body in four bytes and then the body. Numbers have their lowest byte first.
---     It is taken as it comes, byte after byte: a header is judged once it is whole, the length of a frame once its four bytes are there, and a body once it is whole.
-use Rattle.std.specs.Prelude.{ℕ, ◌+◌, Bool, ◌&&◌, ◌||◌, not, List, [], ◌∷◌, ◌++◌, length, take, drop, flat_map, map, Option, Some, None, Result, Ok, Err, is_ok, nat_lt, ◌==◌, bytes_eq, codes, if◌then◌else◌}
+-- The stream of a log: a header of 19 bytes, and behind it each entry in a frame, the length of its body in four bytes and then
+-- the body. Numbers have their lowest byte first.
+--     It is taken as it comes, byte after byte: a header is judged once it is whole, the length of a frame once its four bytes
+--     are there, and a body once it is whole.
+use Rattle.std.specs.Prelude.{ℕ, ◌+◌, Bool, ◌&&◌, ◌||◌, not, List, [], ◌∷◌, ◌++◌, length, take, drop, flat_map, map, Option}
+use Rattle.std.specs.Prelude.{Some, None, Result, Ok, Err, is_ok, nat_lt, ◌==◌, bytes_eq, codes, if◌then◌else◌}
 use Rattle.std.specs.Option.{is_some}
 use Rattle.std.specs.Int.{w32, to_le_bytes, from_le_bytes}
 use Rattle.hy_base.specs.declared.layout.Shape.{Shape}
@@ -16,7 +19,8 @@ use Rattle.hy_formats.specs.LogFormat.{are_zeros, byte_at, longest_body}
 -- ---- how a log is streamed
 
 abbrev pub stream_head : Shape → List ℕ
-stream_head s = codes "HYDERSTR" ++ (s.version ∷ s.group ∷ s.window ∷ to_le_bytes w32 s.cap) ++ to_le_bytes w32 (horizon_told s.horizon)
+stream_head s =
+    codes "HYDERSTR" ++ (s.version ∷ s.group ∷ s.window ∷ to_le_bytes w32 s.cap) ++ to_le_bytes w32 (horizon_told s.horizon)
 
 abbrev pub frame : List ℕ → List ℕ
 frame body = to_le_bytes w32 (length body) ++ body
@@ -27,8 +31,9 @@ stream_bytes s entries = stream_head s ++ flat_map (λ e. frame (spelling s.vers
 
 -- ---- how a stream is taken
 
--- What of a stream has come: the shape once its header was taken, and the entries whose whole frames came. Behind them begins, at this place, the header or frame that isn't whole, of which these bytes came.
--- Once a header or a frame is refused no byte is taken any more.
+-- What of a stream has come: the shape once its header was taken, and the entries whose whole frames came. Behind them
+-- begins, at this place, the header or frame that isn't whole, of which these bytes came. Once a header or a frame is refused
+-- no byte is taken any more.
 pub record Streamed : Type 0 where
   pub shape : Option Shape
   pub entries : List EntryKind
@@ -43,14 +48,21 @@ nothing_came = record { shape = None; entries = []; place = 0; waiting = []; bad
 abbrev pub streamed_shape : List ℕ → Shape
 streamed_shape head =
     let version = byte_at head 8 in
-    record { group = byte_at head 9; window = byte_at head 10; cap = from_le_bytes w32 (take 4 (drop 11 head)); version = version; horizon = if has_horizon version then Some (from_le_bytes w32 (take 4 (drop 15 head))) else None }
+    record {
+      group = byte_at head 9;
+      window = byte_at head 10;
+      cap = from_le_bytes w32 (take 4 (drop 11 head));
+      version = version;
+      horizon = if has_horizon version then Some (from_le_bytes w32 (take 4 (drop 15 head))) else None;
+    }
 
 -- the shape that a header tells, or the first field that is refused: where there is no horizon it has zeros
 abbrev pub head_judged : List ℕ → Result Shape BadFrame
 head_judged head =
     if not (bytes_eq (take 8 head) (codes "HYDERSTR")) then Err (record { place = 0; why = damage.Magic }) else
     if not (is_within 1 newest_version (byte_at head 8)) then Err (record { place = 8; why = damage.Version }) else
-    if is_ok (shape_fault (streamed_shape head)) && (has_horizon (byte_at head 8) || are_zeros (take 4 (drop 15 head))) then Ok (streamed_shape head) else
+    if is_ok (shape_fault (streamed_shape head)) && (has_horizon (byte_at head 8) || are_zeros (take 4 (drop 15 head)))
+    then Ok (streamed_shape head) else
     Err (record { place = 9; why = damage.Shape })
 
 -- the length that the first bytes of a frame tell
@@ -65,7 +77,13 @@ length_fault s count len =
     Some damage.Length
 
 abbrev pub refusing : Streamed → ℕ → Damage → Streamed
-refusing c place why = record { shape = c.shape; entries = c.entries; place = c.place; waiting = c.waiting; bad = Some (record { place = place; why = why }) }
+refusing c place why = record {
+  shape = c.shape;
+  entries = c.entries;
+  place = c.place;
+  waiting = c.waiting;
+  bad = Some (record { place = place; why = why });
+}
 
 abbrev pub with_head : Streamed → Result Shape BadFrame → Streamed
 with_head c (Ok s) = record { shape = Some s; entries = []; place = 19; waiting = []; bad = None }
@@ -76,14 +94,16 @@ with_length c None = c
 with_length c (Some why) = refusing c c.place why
 
 abbrev pub with_body : Streamed → Result EntryKind BadEntry → Streamed
-with_body c (Ok entry) = record { shape = c.shape; entries = c.entries ++ entry ∷ []; place = c.place + length c.waiting; waiting = []; bad = None }
+with_body c (Ok entry) =
+    record { shape = c.shape; entries = c.entries ++ entry ∷ []; place = c.place + length c.waiting; waiting = []; bad = None }
 with_body c (Err bad) = refusing c (c.place + 4 + bad.place) bad.why
 
 -- the bytes that came of a frame
 abbrev pub frame_judged : Shape → Streamed → Streamed
 frame_judged s c =
     if length c.waiting == 4 then with_length c (length_fault s (length c.entries) (told_length c.waiting)) else
-    if length c.waiting == 4 + told_length c.waiting then with_body c (decoded_at s (length c.entries + 1) (drop 4 c.waiting)) else
+    if length c.waiting == 4 + told_length c.waiting
+    then with_body c (decoded_at s (length c.entries + 1) (drop 4 c.waiting)) else
     c
 
 -- What came is judged, if it is time.
@@ -95,7 +115,13 @@ judged (Some s) c = frame_judged s c
 abbrev pub taking : Streamed → ℕ → Streamed
 taking c byte =
     if is_some c.bad then c else
-    judged c.shape (record { shape = c.shape; entries = c.entries; place = c.place; waiting = c.waiting ++ byte ∷ []; bad = None })
+    judged c.shape (record {
+      shape = c.shape;
+      entries = c.entries;
+      place = c.place;
+      waiting = c.waiting ++ byte ∷ [];
+      bad = None;
+    })
 
 -- with these bytes more
 abbrev pub taken : Streamed → List ℕ → Streamed

@@ -29,14 +29,16 @@ abbrev pub commands_of : ℕ → Draw → List Command
 commands_of number d = commands_by number (d.kind % 4) (d.first % 500) (d.second % 500)
 
 abbrev pub program_numbered : ℕ → ℕ → Program
-program_numbered seed number = record { isolation = Serializable; as_of = None; commands = commands_of number (draw_of seed number) }
+program_numbered seed number =
+    record { isolation = Serializable; as_of = None; commands = commands_of number (draw_of seed number) }
 
 -- Programs are dealt out to the clients in turn: client 1 has the programs 0, 8, 16 and so on, client 2 those one further.
 abbrev pub program_count : ℕ → ℕ → ℕ
 program_count size client = (size + 8 - client) / 8
 
 abbrev pub programs_of : ℕ → ℕ → ℕ → List Program
-programs_of seed size client = map (λ turn. program_numbered seed (8 * turn + (client - 1))) (range_with_len 0 (program_count size client))
+programs_of seed size client =
+    map (λ turn. program_numbered seed (8 * turn + (client - 1))) (range_with_len 0 (program_count size client))
 
 abbrev pub client_of : ℕ → ℕ → ℕ → Client
 client_of seed size number = record { server = home number; programs = programs_of seed size number }
@@ -45,7 +47,13 @@ abbrev pub shape_for : ℕ → Shape
 shape_for size = record { group = 4; window = 4; cap = 8 * size; version = 1; horizon = None }
 
 abbrev pub script_of : ℕ → ℕ → Workload
-script_of seed size = record { shape = shape_for size; servers = 4; keeps = 1; tables = 0; clients = map (client_of seed size) (range_with_len 1 8) }
+script_of seed size = record {
+  shape = shape_for size;
+  servers = 4;
+  keeps = 1;
+  tables = 0;
+  clients = map (client_of seed size) (range_with_len 1 8);
+}
 
 -- the schedule, for the programs of a seed
 abbrev pub schedule_of : ℕ → ℕ → List Event

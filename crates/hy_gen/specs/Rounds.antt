@@ -1,8 +1,9 @@
--- The schedule of a load goes in rounds, from 0. A program on server 1 takes one round, on server 2 two, on server 3 four, and on server 4 eight:
--- it begins in the first of them and ends in the last, and the client's next program begins in the round after that.
--- At the end of each round the last group is completed, and each server for which it is the last round of a program's time, also where it has none left,
--- publishes the log, if that grew since the first of these rounds.
-use Rattle.std.specs.Prelude.{ℕ, zero, suc, sum_by, ◌+◌, ◌-◌, ◌*◌, ◌/◌, ◌%◌, ◌^◌, max, Bool, true, false, ◌&&◌, List, [], ◌∷◌, ◌++◌, Option, Some, None, slice_get, length, nat_lt, ◌==◌, if◌then◌else◌}
+-- The schedule of a load goes in rounds, from 0. A program on server 1 takes one round, on server 2 two, on server 3 four, and
+-- on server 4 eight: it begins in the first of them and ends in the last, and the client's next program begins in the round
+-- after that. At the end of each round the last group is completed, and each server for which it is the last round of a
+-- program's time, also where it has none left, publishes the log, if that grew since the first of these rounds.
+use Rattle.std.specs.Prelude.{ℕ, zero, suc, sum_by, ◌+◌, ◌-◌, ◌*◌, ◌/◌, ◌%◌, ◌^◌, max, Bool, true, false, ◌&&◌, List, [], ◌∷◌}
+use Rattle.std.specs.Prelude.{◌++◌, Option, Some, None, slice_get, length, nat_lt, ◌==◌, if◌then◌else◌}
 use Rattle.std.specs.List.{range_with_len, flat_map}
 use Rattle.hy_base.specs.declared.workload.Event.{Event}
 use Rattle.hy_base.specs.declared.workload.Event.TheVariants.{Begin, Append, End, Pad, Publish}
@@ -72,7 +73,9 @@ publish_event server (Some upto) = Publish server upto ∷ []
 -- A server publishes in the last round of its programs, unless the log is as long as it was before the first of them.
 abbrev pub publishes : (ℕ → ℕ) → ℕ → ℕ → List Event
 publishes len_before round server =
-    if is_last server round && nat_lt (len_before (round + 1 - period server)) (len_before (round + 1)) then Publish server (len_before (round + 1)) ∷ [] else []
+    if is_last server round && nat_lt (len_before (round + 1 - period server)) (len_before (round + 1))
+    then Publish server (len_before (round + 1)) ∷ []
+    else []
 
 abbrev pub events_in : List Bool → ℕ → List Event
 events_in readers round =

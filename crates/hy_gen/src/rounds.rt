@@ -2,7 +2,9 @@
 ghost use Rattle.std.specs.Prelude.{◌≡◌, ◌+◌, ◌*◌, ◌^◌, ◌≤◌, ◌<◌, ◌++◌, length, map, get_or, IfOk, OnOk};
 ghost use Rattle.std.specs.List.{range_with_len, flat_map};
 ghost use Rattle.hy_base.specs.Shape.{IsWithin};
-ghost use Rattle.hy_gen.specs.Rounds.{period, home, number_in, is_beginning, begin_events, ending, end_events, entry_count, ends, append_count, whole, log_len, pads, publishes, publish_event, events_in, round_count, schedule};
+ghost use Rattle.hy_gen.specs.Rounds.{period, home, number_in, is_beginning, begin_events, ending, end_events, entry_count};
+ghost use Rattle.hy_gen.specs.Rounds.{ends, append_count, whole, log_len, pads, publishes, publish_event, events_in};
+ghost use Rattle.hy_gen.specs.Rounds.{round_count, schedule};
 
 use crate::programs::{CLIENTS, SERVERS, home};
 use hy_base::{Event, Pos};
@@ -97,7 +99,8 @@ fn add_end(
 // Adds how the clients end their programs, and answers how many entries they append.
 fn add_ends(events: &mut Vec<Event>, readers: &[bool], round: u32) -> Result<u32, AllocError>
     requires { round ≤ 100000 }
-    ensures events { OnOk result (events.new.items ≡ events.old.items ++ flat_map (ends readers.now round) (range_with_len 1 8)) }
+    ensures events { OnOk result (events.new.items ≡ events.old.items
+        ++ flat_map (ends readers.now round) (range_with_len 1 8)) }
     ensures append_count { IfOk result (λ entries. entries ≡ append_count readers.now round) }
     ensures few { IfOk result (λ entries. entries ≤ 8) }
 {
@@ -159,7 +162,8 @@ fn add_publish(
 fn add_publishes(events: &mut Vec<Event>, lens: &[Pos], round: u32) -> Result<(), AllocError>
     requires lens { length lens.now ≡ round + 2 }
     requires round { round ≤ 100000 }
-    ensures { OnOk result (events.new.items ≡ events.old.items ++ flat_map (publishes (λ at. get_or lens.now at 0) round) (range_with_len 1 4)) }
+    ensures { OnOk result (events.new.items ≡ events.old.items
+        ++ flat_map (publishes (λ at. get_or lens.now at 0) round) (range_with_len 1 4)) }
 {
     for server in 1..SERVERS + 1 {
         add_publish(events, lens, round, server)?;

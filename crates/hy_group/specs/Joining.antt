@@ -17,16 +17,20 @@ IsJoin group marks (Mate c) after = (clash group.writes marks.pairs ≡ Some c) 
 -- Where the group has the marks of its members so far, and the marks are those of the next member, raised to the base:
 -- it then has those of its members with that one, if it joined.
 abbrev pub IsMemberJoin : MarkSet → MarkSet → Join → MarkSet → Type 0
-IsMemberJoin group marks Joined after = (base pos : ℕ) (ms : List Standing) (i : Intention) → AreGroupMarks base pos ms group → AreMarks (known_to (max i.snap base) i) (rows_at (pos + length ms) i.writes) marks
+IsMemberJoin group marks Joined after =
+    (base pos : ℕ) (ms : List Standing) (i : Intention)
+    → AreGroupMarks base pos ms group → AreMarks (known_to (max i.snap base) i) (rows_at (pos + length ms) i.writes) marks
     → AreGroupMarks base pos (ms ++ IsJoined i ∷ []) after
 IsMemberJoin group marks (Mate c) after = after ≡ group
 
--- Where all that the joined members write is past what the marks know: a mate exactly where one of them writes a key that the intention touches,
--- which is the least such key by its last writer.
+-- Where all that the joined members write is past what the marks know: a mate exactly where one of them writes a key that the
+-- intention touches, which is the least such key by its last writer.
 abbrev pub IsMateIn : List Row → Intention → Join → Type 0
 IsMateIn joined i Joined = first_clash (touched i joined) ≡ None
 IsMateIn joined i (Mate c) = first_clash (touched i joined) ≡ Some c
 
 abbrev pub IsMateOf : MarkSet → MarkSet → Join → Type 0
-IsMateOf group marks answer = (joined : List Row) (known : ℕ) (i : Intention) (writes : List Row) → WritersRise joined → Each (λ r. known < r.writer) joined → group.writes ≡ newest joined → AreMarks (known_to known i) writes marks
+IsMateOf group marks answer =
+    (joined : List Row) (known : ℕ) (i : Intention) (writes : List Row) → WritersRise joined
+    → Each (λ r. known < r.writer) joined → group.writes ≡ newest joined → AreMarks (known_to known i) writes marks
     → IsMateIn joined i answer

@@ -34,14 +34,22 @@ abbrev pub StandsAsAdded : List EntryKind → List Occurrence → Occurrence →
 StandsAsAdded [] before event after = ⊤
 StandsAsAdded (entry ∷ entries) before event after = IsOfBatch before event after
 
--- An event that adds entries is one of the batch that was out. The device is lifted where it is home and the log runs, with a batch of which each event might be the next one; it fails, and lands, where it is out; and where it failed it lands at once.
+-- An event that adds entries is one of the batch that was out. The device is lifted where it is home and the log runs, with a
+-- batch of which each event might be the next one; it fails, and lands, where it is out; and where it failed it lands at once.
 abbrev pub StandsInOrder : List Occurrence → Occurrence → List Occurrence → Type 0
 StandsInOrder before (Opened o) after = ⊤
 StandsInOrder before (Happened event added ended) after = StandsAsAdded added.entries before (Happened event added ended) after
-StandsInOrder before (Halted at risen) after = IsHalt before (Halted at risen ∷ []) × ((behind : List Occurrence) × (after ≡ Landed ∷ behind))
-StandsInOrder before (Lifted batch) after = (flight_of before ≡ None) × (halt_of before ≡ None) × AllByRecursion (MayBeNext before) (events_told batch)
+StandsInOrder before (Halted at risen) after =
+    IsHalt before (Halted at risen ∷ [])
+    × ((behind : List Occurrence) × (after ≡ Landed ∷ behind))
+StandsInOrder before (Lifted batch) after =
+    (flight_of before ≡ None)
+    × (halt_of before ≡ None)
+    × AllByRecursion (MayBeNext before) (events_told batch)
 StandsInOrder before Landed after = is_out before ≡ true
 
 -- So does each occurrence of a list, by what stands before and behind it.
 abbrev pub AreInOrder : List Occurrence → Type 0
-AreInOrder list = (before : List Occurrence) (occurrence : Occurrence) (after : List Occurrence) → list ≡ before ++ (occurrence ∷ after) → StandsInOrder before occurrence after
+AreInOrder list =
+    (before : List Occurrence) (occurrence : Occurrence) (after : List Occurrence) → list ≡ before ++ (occurrence ∷ after)
+    → StandsInOrder before occurrence after

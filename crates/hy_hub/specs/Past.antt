@@ -14,4 +14,6 @@ pub record HoldsSome (header : Header) (least : ℕ) (entries : List EntryKind) 
 
 -- these, or all of them and a whole batch
 abbrev pub HasStood : Header → ℕ → List EntryKind → List EntryKind → List ℕ → Type 0
-HasStood header least entries batch image = HoldsSome header least entries image ⊎ Holds header (map (spelling header.shape.version) (entries ++ batch)) image
+HasStood header least entries batch image =
+    HoldsSome header least entries image
+    ⊎ Holds header (map (spelling header.shape.version) (entries ++ batch)) image

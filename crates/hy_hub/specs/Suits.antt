@@ -1,4 +1,5 @@
--- Whose entry: what is asked of an event that ends a client's program. A hub is made for such a rule, and each of its lists keeps it.
+-- Whose entry: what is asked of an event that ends a client's program. A hub is made for such a rule, and each
+-- of its lists keeps it.
 use Rattle.std.specs.Prelude.{◌≡◌, ℕ, List, [], ◌∷◌, ◌++◌, ⊤}
 use Rattle.std.specs.List.{AllByRecursion}
 use mathlib.Core.List.{IsPrefix}
@@ -13,10 +14,12 @@ use Rattle.hy_hub.specs.Entries.{Asked}
 use Rattle.hy_hub.specs.Appends.{RunsOn, IsRunningFor}
 use Rattle.hy_hub.specs.Trace.{state_after, events_told}
 
--- As a list goes on, the entry suits wherever its client runs this program on its snapshot and at its isolation, and so does its refusal by a full log.
+-- As a list goes on, the entry suits wherever its client runs this program on its snapshot and at its isolation, and so does
+-- its refusal by a full log.
 abbrev pub MayAppend : (State → Event → List EntryKind → Type 0) → List Occurrence → ℕ → ℕ → EntryKind → Type 0
 MayAppend suits list client number entry =
-    (later : List Occurrence) → IsPrefix list later → IsRunningFor client number entry later → suits (state_after later) (Append client) (entry ∷ []) × suits (state_after later) (Refuse client) []
+    (later : List Occurrence) → IsPrefix list later → IsRunningFor client number entry later
+    → suits (state_after later) (Append client) (entry ∷ []) × suits (state_after later) (Refuse client) []
 
 -- so does what a client asked
 abbrev pub MayWait : (State → Event → List EntryKind → Type 0) → List Occurrence → Asked → Type 0
@@ -24,7 +27,9 @@ MayWait suits list asked = MayAppend suits list asked.client asked.number asked.
 
 -- So does the end of a program that wrote nothing.
 abbrev pub MayEnd : (State → Event → List EntryKind → Type 0) → List Occurrence → ℕ → ℕ → ℕ → Type 0
-MayEnd suits list client number snap = (later : List Occurrence) → IsPrefix list later → RunsOn client number snap (state_after later) → suits (state_after later) (End client) []
+MayEnd suits list client number snap =
+    (later : List Occurrence) → IsPrefix list later → RunsOn client number snap (state_after later)
+    → suits (state_after later) (End client) []
 
 -- an event suits a state where it ends a program
 abbrev pub SuitsIn : (State → Event → List EntryKind → Type 0) → State → Event → List EntryKind → Type 0
@@ -54,7 +59,9 @@ SuitsAt suits before Landed = ⊤
 
 -- So does each occurrence of a list.
 abbrev pub AllSuit : (State → Event → List EntryKind → Type 0) → List Occurrence → Type 0
-AllSuit suits list = (before : List Occurrence) (occurrence : Occurrence) (after : List Occurrence) → list ≡ before ++ (occurrence ∷ after) → SuitsAt suits before occurrence
+AllSuit suits list =
+    (before : List Occurrence) (occurrence : Occurrence) (after : List Occurrence) → list ≡ before ++ (occurrence ∷ after)
+    → SuitsAt suits before occurrence
 
 -- The list suits, and each entry that waits may be appended.
 pub record IsSuited {D B : Type 0} (suits : State → Event → List EntryKind → Type 0) (c : Inside D B) : Type 0 where

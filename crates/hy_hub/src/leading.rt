@@ -1,6 +1,7 @@
 //! Calls that lead: they write batches outside the turn, put the device back, and lift it again.
 ghost use Rattle.hy_hub.specs.declared.occurrence.AppendRefusal.TheVariants as AppendRefusal;
-ghost use Rattle.std.specs.Prelude.{◌≡◌, ◌≢◌, ◌⊎◌, ◌↔◌, ℕ, Option, ◌<◌, ◌^◌, length, true, false, None, Some, Ok, Err, IfSome, IfErr, slice_get, is_some, if◌then◌else◌};
+ghost use Rattle.std.specs.Prelude.{◌≡◌, ◌≢◌, ◌⊎◌, ◌↔◌, ℕ, Option, ◌<◌, ◌^◌, length, true, false, None, Some, Ok, Err, IfSome};
+ghost use Rattle.std.specs.Prelude.{IfErr, slice_get, is_some, if◌then◌else◌};
 ghost use mathlib.Core.List.{IsPrefix};
 ghost use Rattle.hy_disk.specs.Moments.{LeavesSince};
 ghost use Rattle.hy_hist.specs.Passes.{with_mine, made, Makes, WaitByClaim};
@@ -10,7 +11,8 @@ ghost use Rattle.hy_hub.specs.Calls.{OwnTurn, IsFree, IsIdle, done_by, AppendDoe
 ghost use Rattle.hy_hub.specs.Appends.{IsRunningFor};
 ghost use Rattle.hy_hub.specs.HoldSteps.{claim_flown, comes_early};
 ghost use Rattle.hy_hub.specs.Flights.{IsOutWith, IsFlownOf, are_appends};
-ghost use Rattle.hy_hub.specs.Holds.{FailsAfter, KeepsMade, IsCarrier, HasLanded, LandsOwn, IsLiftAt, LedOn, LeadsOn, MayLeadOn, Flies, LeadsStill, lift_of, lift_found};
+ghost use Rattle.hy_hub.specs.Holds.{FailsAfter, KeepsMade, IsCarrier, HasLanded, LandsOwn, IsLiftAt, LedOn, LeadsOn};
+ghost use Rattle.hy_hub.specs.Holds.{MayLeadOn, Flies, LeadsStill, lift_of, lift_found};
 
 use crate::contents::Contents;
 use crate::flights::{Concerned, write_batch};
@@ -57,7 +59,8 @@ impl<D: Disk, B: Since> Hub<D, B> {
         ensures seen { pass.new.seen ≡ contents.list }
         ensures told { IsHubHistory pass.new.seen }
         ensures order { made pass.new ≡ with_mine mine pass.new.seen (made pass.old) }
-        ensures made { (k : ℕ) (x : _) → Makes pass.new k x ↔ (Makes pass.old k x ⊎ ((mine ≡ Some k) × (slice_get pass.new.seen k ≡ Some x))) }
+        ensures made { (k : ℕ) (x : _)
+            → Makes pass.new k x ↔ (Makes pass.old k x ⊎ ((mine ≡ Some k) × (slice_get pass.new.seen k ≡ Some x))) }
         ensures kept { (pass.new.lock ≡ pass.old.lock) × (pass.new.parts ≡ pass.old.parts) }
         ensures carries { pass.new.carries ≡ is_out contents.list }
         ensures claim { pass.new.claim ≡ claim }
@@ -83,10 +86,12 @@ impl<D: Disk, B: Since> Hub<D, B> {
     ) -> Option<(Pos, Option<Flight<D>>)>
         requires pass { IsCarrier self.now pass.old }
         requires client { is_declared_client request.now.client pass.old.seen }
-        requires flown { IsFlownOf D.tells D.content (LeavesSince D.moment D.left_since B.moment B.left) B.least D.faults_of pass.old.seen log (Ok at) }
+        requires flown { IsFlownOf D.tells D.content
+            (LeavesSince D.moment D.left_since B.moment B.left) B.least D.faults_of pass.old.seen log (Ok at) }
         requires appends { are_appends (flight_of pass.old.seen) ≡ true }
         requires claim { pass.old.claim ≡ Some request.now.client }
-        ensures lands { LandsOwn D.tells (LeavesSince D.moment D.left_since B.moment B.left) B.least D.faults_of self.now request.now since result pass.old pass.new }
+        ensures lands { LandsOwn D.tells (LeavesSince D.moment D.left_since B.moment B.left) B.least D.faults_of self.now
+            request.now since result pass.old pass.new }
         ensures alone { LeadsStill (Some request.now.client) self.now.parts None (lift_found result) pass.old pass.new }
         ensures claim { pass.new.claim ≡ (if is_some result then None else Some request.now.client) }
     {
@@ -118,11 +123,13 @@ impl<D: Disk, B: Since> Hub<D, B> {
         goes_on: bool,
     ) -> Option<Flight<D>>
         requires pass { IsCarrier self.now pass.old }
-        requires flown { IsFlownOf D.tells D.content (LeavesSince D.moment D.left_since B.moment B.left) B.least D.faults_of pass.old.seen flight.log (Ok at) }
+        requires flown { IsFlownOf D.tells D.content
+            (LeavesSince D.moment D.left_since B.moment B.left) B.least D.faults_of pass.old.seen flight.log (Ok at) }
         requires appends { are_appends (flight_of pass.old.seen) ≡ true }
         requires lift { IsLiftAt flight.lift pass.old.seen }
         requires claim { pass.old.claim ≡ None }
-        ensures lands { HasLanded D.tells (LeavesSince D.moment D.left_since B.moment B.left) B.least D.faults_of self.now result pass.old pass.new }
+        ensures lands { HasLanded D.tells
+            (LeavesSince D.moment D.left_since B.moment B.left) B.least D.faults_of self.now result pass.old pass.new }
         ensures makes { done_by pass.new ≡ done_by pass.old }
         ensures claim { pass.new.claim ≡ None }
         ensures last { goes_on ≡ false → result ≡ None }
@@ -153,7 +160,8 @@ impl<D: Disk, B: Since> Hub<D, B> {
         failed: Failed,
     )
         requires pass { IsCarrier self.now pass.old }
-        requires flown { IsFlownOf D.tells D.content (LeavesSince D.moment D.left_since B.moment B.left) B.least D.faults_of pass.old.seen flight.log (Err failed) }
+        requires flown { IsFlownOf D.tells D.content
+            (LeavesSince D.moment D.left_since B.moment B.left) B.least D.faults_of pass.old.seen flight.log (Err failed) }
         requires lift { IsLiftAt flight.lift pass.old.seen }
         requires claim { pass.old.claim ≡ None }
         ensures led { LedOn self.now pass.old pass.new }
@@ -179,11 +187,18 @@ impl<D: Disk, B: Since> Hub<D, B> {
     ) -> AppendRefusal
         requires pass { IsCarrier self.now pass.old }
         requires client { is_declared_client request.now.client pass.old.seen }
-        requires flown { IsFlownOf D.tells D.content (LeavesSince D.moment D.left_since B.moment B.left) B.least D.faults_of pass.old.seen log (Err failed) }
+        requires flown { IsFlownOf D.tells D.content
+            (LeavesSince D.moment D.left_since B.moment B.left) B.least D.faults_of pass.old.seen log (Err failed) }
         requires claim { pass.old.claim ≡ Some request.now.client }
-        ensures refused { OwnTurn pass.old pass.new (AppendDoes request.now.client request.now.number request.now.entry (Err result)) }
-        ensures cause { FailsAfter pass.old.seen pass.new.seen × KeepsMade pass.old pass.new × ((at : ℕ) → result ≢ AppendRefusal.Stopped at) × (result ≢ AppendRefusal.Memory) }
-        ensures in_turn { pass.old.parts ≡ self.now.parts → IsRunningFor request.now.client request.now.number request.now.entry pass.old.seen → comes_early result ≡ false }
+        ensures refused { OwnTurn pass.old pass.new
+            (AppendDoes request.now.client request.now.number request.now.entry (Err result)) }
+        ensures cause { FailsAfter pass.old.seen pass.new.seen
+            × KeepsMade pass.old pass.new
+            × ((at : ℕ) → result ≢ AppendRefusal.Stopped at)
+            × (result ≢ AppendRefusal.Memory) }
+        ensures in_turn { pass.old.parts ≡ self.now.parts
+            → IsRunningFor request.now.client request.now.number request.now.entry pass.old.seen
+            → comes_early result ≡ false }
         ensures alone { LeadsStill (Some request.now.client) self.now.parts None None pass.old pass.new }
         ensures kept { IsIdle self.now pass.new × (pass.new.parts ≡ pass.old.parts) }
     {
@@ -207,11 +222,13 @@ impl<D: Disk, B: Since> Hub<D, B> {
         goes_on: bool,
     ) -> Option<Flight<D>>
         requires pass { IsCarrier self.now pass.old }
-        requires out { IsOutWith D.tells (LeavesSince D.moment D.left_since B.moment B.left) B.least D.faults_of pass.old.seen flight.log }
+        requires out { IsOutWith D.tells
+            (LeavesSince D.moment D.left_since B.moment B.left) B.least D.faults_of pass.old.seen flight.log }
         requires appends { are_appends (flight_of pass.old.seen) ≡ true }
         requires lift { IsLiftAt flight.lift pass.old.seen }
         requires claim { pass.old.claim ≡ None }
-        ensures led { LeadsOn D.tells (LeavesSince D.moment D.left_since B.moment B.left) B.least D.faults_of self.now result pass.old pass.new }
+        ensures led { LeadsOn D.tells
+            (LeavesSince D.moment D.left_since B.moment B.left) B.least D.faults_of self.now result pass.old pass.new }
         ensures claim { pass.new.claim ≡ None }
         ensures alone { (of : Option ℕ) → LeadsStill of self.now.parts (Some flight.lift) (lift_of result) pass.old pass.new }
         ensures last { goes_on ≡ false → result ≡ None }
@@ -236,7 +253,8 @@ impl<D: Disk, B: Since> Hub<D, B> {
     )
         requires told { IsHubHistory pass.old.seen }
         requires claim { pass.old.claim ≡ None }
-        requires leaves { MayLeadOn D.tells (LeavesSince D.moment D.left_since B.moment B.left) B.least D.faults_of self.now lifted pass.old }
+        requires leaves { MayLeadOn D.tells
+            (LeavesSince D.moment D.left_since B.moment B.left) B.least D.faults_of self.now lifted pass.old }
         ensures led { LedOn self.now pass.old pass.new }
         ensures claim { pass.new.claim ≡ None }
         ensures alone { (of : Option ℕ) → LeadsStill of self.now.parts (lift_of lifted) None pass.old pass.new }
@@ -270,11 +288,14 @@ impl<D: Disk, B: Since> Hub<D, B> {
     ) -> Result<Option<Pos>, AppendRefusal>
         requires pass { IsCarrier self.now pass.old }
         requires client { is_declared_client request.now.client pass.old.seen }
-        requires out { IsOutWith D.tells (LeavesSince D.moment D.left_since B.moment B.left) B.least D.faults_of pass.old.seen flight.log }
+        requires out { IsOutWith D.tells
+            (LeavesSince D.moment D.left_since B.moment B.left) B.least D.faults_of pass.old.seen flight.log }
         requires appends { are_appends (flight_of pass.old.seen) ≡ true }
         requires claim { pass.old.claim ≡ Some request.now.client }
         ensures flies { Flies self.now request.now since result pass.old pass.new }
-        ensures in_turn { pass.old.parts ≡ self.now.parts → IsRunningFor request.now.client request.now.number request.now.entry pass.old.seen → IfErr result (λ e. comes_early e ≡ false) }
+        ensures in_turn { pass.old.parts ≡ self.now.parts
+            → IsRunningFor request.now.client request.now.number request.now.entry pass.old.seen
+            → IfErr result (λ e. comes_early e ≡ false) }
         ensures alone { LeadsStill (Some request.now.client) self.now.parts None None pass.old pass.new }
         ensures kept { IsFree self.now pass.new × (pass.new.parts ≡ pass.old.parts) }
         ensures claim { pass.new.claim ≡ claim_flown request.now.client result }

@@ -51,7 +51,8 @@ impl Source for MemSource {
         ensures bytes { ReadConsumes (Some (source_left self.old)) (Some (source_left self.new)) result into.new }
         ensures cause { HasCause (source_plan self.old).faults (source_plan self.new).faults result }
         ensures fails { is_err result ≡ fails_next (source_plan self.old) }
-        ensures count { IfOk result (λ count. count ≡ min (length into.old) (min (source_plan self.old).most (length (source_left self.old)))) }
+        ensures count { IfOk result (λ count.
+            count ≡ min (length into.old) (min (source_plan self.old).most (length (source_left self.old)))) }
         ensures plan { source_plan self.new ≡ after_call (source_plan self.old) (is_err result) }
     {
         if self.calls.fails(false) {
@@ -116,7 +117,8 @@ impl Sink for MemSink {
         ensures bytes { WriteAppends (Some (sink_taken self.old)) (Some (sink_taken self.new)) result piece.now }
         ensures cause { HasCause (sink_plan self.old).faults (sink_plan self.new).faults result }
         ensures fails { is_err result ≡ ((nat_lt 0 (length piece.now) && is_full self.old) || fails_next (sink_plan self.old)) }
-        ensures count { IfOk result (λ count. count ≡ min (length piece.now) (min (sink_plan self.old).most (sink_room self.old - length (sink_taken self.old)))) }
+        ensures count { IfOk result (λ count. count
+            ≡ min (length piece.now) (min (sink_plan self.old).most (sink_room self.old - length (sink_taken self.old)))) }
         ensures plan { sink_plan self.new ≡ after_call (sink_plan self.old) (is_err result) }
         ensures room { sink_room self.new ≡ sink_room self.old }
     {

@@ -44,7 +44,8 @@ pub fn read_all<S: Source>(
 ) -> Result<Vec<u8>, ReadAllError>
     // Exactly the source's bytes, and then it is at its end.
     ensures exact { IfOk result (λ bytes. IfSome (S.left source.old) (λ left. bytes.items ≡ left)) }
-    ensures whole { IfOk result (λ bytes. Consumes (S.left source.old) (S.left source.new) bytes.items × IsAtEnd (S.left source.new)) }
+    ensures whole { IfOk result (λ bytes. Consumes (S.left source.old) (S.left source.new) bytes.items
+        × IsAtEnd (S.left source.new)) }
     ensures short { IfOk result (λ bytes. length bytes.items ≤ limit) }
 
     // Too long only where the source has more bytes than the limit, and such a source is never answered Ok. One byte more than

@@ -20,11 +20,16 @@ EntryCounts bound (Txn i) = AllByRecursion (CountsUpTo bound) i.writes
 abbrev pub LogCounts : List EntryKind → Type 0
 LogCounts log = AllByRecursion (EntryCounts (2 * length log)) log
 
--- No event of a load's schedule is disabled in its turn. So each appended program leaves a write, and each that ends by itself leaves none.
+-- No event of a load's schedule is disabled in its turn. So each appended program leaves a write, and each that ends
+-- by itself leaves none.
 abbrev pub ScheduleIsEnabled : Type 0
-ScheduleIsEnabled = (seed size : ℕ) → IsLoadSize size → first_disabled (script_of seed size) (opening_of (script_of seed size) []) (schedule_of seed size) ≡ None
+ScheduleIsEnabled =
+    (seed size : ℕ) → IsLoadSize size
+    → first_disabled (script_of seed size) (opening_of (script_of seed size) []) (schedule_of seed size) ≡ None
 
 -- The schedule leads to a log of at most four entries for a program, whose keys below 500 hold numbers alone.
 abbrev pub ScheduleLeads : Type 0
 ScheduleLeads =
-    (seed size : ℕ) → IsLoadSize size → IsSomeAnd (run (script_of seed size) (opening_of (script_of seed size) []) (schedule_of seed size)) (λ s. (length s.log ≤ 4 * size) × LogCounts s.log)
+    (seed size : ℕ) → IsLoadSize size
+    → IsSomeAnd (run (script_of seed size) (opening_of (script_of seed size) []) (schedule_of seed size)) (λ s.
+    (length s.log ≤ 4 * size) × LogCounts s.log)

@@ -33,10 +33,13 @@ pub record IsMarkSet (m : MarkSet) : Type 0 where
 abbrev pub known_if : ℕ → Bool → Option ℕ
 known_if pos test = if test then Some pos else None
 
--- Of two lists in order, the first mark of both, with what it leaves of them. Where both have its block, it has the lesser dependency.
+-- Of two lists in order, the first mark of both, with what it leaves of them. Where both have its block, it has
+-- the lesser dependency.
 pub record IsFirstBlock (left right : List Mark) (mark : Mark) (left_rest right_rest : List Mark) : Type 0 where
-  pub deps : (key : ℕ) → lesser (dep left key) (dep right key) ≡ lesser (dep (mark ∷ []) key) (lesser (dep left_rest key) (dep right_rest key))
-  pub ordered : (front : List Mark) → AreOrdered (front ++ left) → AreOrdered (front ++ right) → AreOrdered ((front ++ mark ∷ []) ++ left_rest) × AreOrdered ((front ++ mark ∷ []) ++ right_rest)
+  pub deps : (key : ℕ)
+      → lesser (dep left key) (dep right key) ≡ lesser (dep (mark ∷ []) key) (lesser (dep left_rest key) (dep right_rest key))
+  pub ordered : (front : List Mark) → AreOrdered (front ++ left) → AreOrdered (front ++ right)
+      → AreOrdered ((front ++ mark ∷ []) ++ left_rest) × AreOrdered ((front ++ mark ∷ []) ++ right_rest)
   pub blocks : AreBlocks left → AreBlocks right → IsBlock mark.block × AreBlocks left_rest × AreBlocks right_rest
   pub shorter : length left_rest + length right_rest < length left + length right
 

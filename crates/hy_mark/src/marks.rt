@@ -47,7 +47,8 @@ fn mark_blocks(
     dependency: Pos,
 ) -> Result<(), AllocError>
     requires { AllByRecursion IsBlock blocks.now }
-    ensures ok { OnOk result ((key : ℕ) → dep pairs.new key ≡ lesser (known_if dependency (list_any (is_in_span key) blocks.now)) (dep pairs.old key)) }
+    ensures ok { OnOk result ((key : ℕ)
+        → dep pairs.new key ≡ lesser (known_if dependency (list_any (is_in_span key) blocks.now)) (dep pairs.old key)) }
 {
     for &block in blocks {
         pairs.add(alloc, Mark { block, dependency })?;

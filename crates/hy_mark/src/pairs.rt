@@ -45,7 +45,8 @@ fn is_before(left: Span, right: Span) -> bool
 
 // The first mark of two lists in order. A block that both have has one mark, with the lesser dependency.
 fn first_of<'a>(left: &'a [Mark], right: &'a [Mark]) -> Option<First<'a>>
-    ensures { MatchOption result ((left.now ≡ []) × (right.now ≡ [])) (λ first. AreOrdered left.now → AreOrdered right.now → IsFirstBlock left.now right.now first.mark first.left.now first.right.now) }
+    ensures { MatchOption result ((left.now ≡ []) × (right.now ≡ [])) (λ first. AreOrdered left.now → AreOrdered right.now
+        → IsFirstBlock left.now right.now first.mark first.left.now first.right.now) }
 {
     match (left.split_first(), right.split_first()) {
         (None, None) => None,

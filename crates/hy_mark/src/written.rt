@@ -38,7 +38,8 @@ struct FirstRow<'a> {
 
 // The first row of two lists in order. Of a key that both have it is the right one.
 fn first_of<'a>(left: &'a [Row], right: &'a [Row]) -> Option<FirstRow<'a>>
-    ensures { MatchOption result ((left.now ≡ []) × (right.now ≡ [])) (λ first. IsOrdered left.now → IsOrdered right.now → IsFirstRow left.now right.now first.row.now first.left.now first.right.now) }
+    ensures { MatchOption result ((left.now ≡ []) × (right.now ≡ [])) (λ first. IsOrdered left.now → IsOrdered right.now
+        → IsFirstRow left.now right.now first.row.now first.left.now first.right.now) }
 {
     match (left.split_first(), right.split_first()) {
         (None, None) => None,

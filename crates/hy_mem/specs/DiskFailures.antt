@@ -1,5 +1,6 @@
 -- Which calls of a device in memory fail.
-use Rattle.std.specs.Prelude.{◌≡◌, ℕ, ◌+◌, ◌-◌, ◌^◌, ◌<◌, min, Bool, false, ◌==◌, ◌||◌, nat_lt, nat_le, List, [], Option, Some, None, if◌then◌else◌}
+use Rattle.std.specs.Prelude.{◌≡◌, ℕ, ◌+◌, ◌-◌, ◌^◌, ◌<◌, min, Bool, false, ◌==◌, ◌||◌, nat_lt, nat_le, List, [], Option, Some}
+use Rattle.std.specs.Prelude.{None, if◌then◌else◌}
 use Rattle.std.specs.List.{list_any}
 use Rattle.std.specs.Option.{option_map}
 
@@ -37,7 +38,8 @@ strikes_within n (Some at) = nat_le at n
 
 -- whether the next call fails by its number
 abbrev pub fails_by_number : DevicePlan → Bool
-fails_by_number plan = list_any (λ call. call == counted_call plan.made) plan.fails || is_after_all (counted_call plan.made) plan.passes
+fails_by_number plan =
+    list_any (λ call. call == counted_call plan.made) plan.fails || is_after_all (counted_call plan.made) plan.passes
 
 -- whether the next call fails, if it changes nothing
 abbrev pub read_fails : DevicePlan → Bool
@@ -49,7 +51,8 @@ change_fails plan = fails_by_number plan || strikes_within 1 plan.armed
 
 -- the plan after one more call that changes nothing
 abbrev pub after_read : DevicePlan → Bool → DevicePlan
-after_read plan failed = record plan { made = counted_call plan.made; faults = if failed then counted_call plan.faults else plan.faults }
+after_read plan failed =
+    record plan { made = counted_call plan.made; faults = if failed then counted_call plan.faults else plan.faults }
 
 -- the plan after one more write or sync
 abbrev pub after_change : DevicePlan → Bool → DevicePlan

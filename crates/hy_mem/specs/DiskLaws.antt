@@ -11,7 +11,8 @@ none_later (content ∷ earlier) t image later (inl here) = omega (arith, here.0
 none_later (content ∷ earlier) t image later (inr left) = none_later earlier t image (omega arith) left
 
 -- since the last sync there is what there is now
-pub only_now : (before : List Content) (content : Content) (image : List ℕ) → Image content image ⊎ LeftBefore before (length before) image → Image content image
+pub only_now : (before : List Content) (content : Content) (image : List ℕ)
+    → Image content image ⊎ LeftBefore before (length before) image → Image content image
 only_now before content image (inl is) = is
 only_now before content image (inr left) = absurd (none_later before (length before) image (omega arith) left)
 

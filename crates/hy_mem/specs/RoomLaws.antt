@@ -5,4 +5,9 @@ use Rattle.hy_mem.specs.DiskLaws.{is_before}
 use Rattle.hy_mem.specs.MemDisk.{HasRoom}
 
 pub room_shrinks : (disk : MemDisk) (j k a b : ℕ) → HasRoom disk k b → j ≤ k → a ≤ b → HasRoom disk j a
-room_shrinks disk j k a b room fewer less = record { sound = room.sound; before = is_before j k disk.calls.armed room.before fewer; calls = omega (arith, room.calls); bytes = omega (arith, room.bytes) }
+room_shrinks disk j k a b room fewer less = record {
+  sound = room.sound;
+  before = is_before j k disk.calls.armed room.before fewer;
+  calls = omega (arith, room.calls);
+  bytes = omega (arith, room.bytes);
+}

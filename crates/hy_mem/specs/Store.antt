@@ -4,7 +4,8 @@ use Rattle.hy_disk.specs.Content.{Content}
 use Rattle.hy_mem.specs.declared.mark.SyncMark.{SyncMark}
 use Rattle.hy_mem.specs.Undo.{covered_total}
 
--- What it holds, and held before each sync, the newest first. Without memory it can take so many writes and syncs more, of so many bytes in all.
+-- What it holds, and held before each sync, the newest first. Without memory it can take so many writes and syncs more, of
+-- so many bytes in all.
 pub record Stored : Type 0 where
   pub content : Content
   pub before : List Content

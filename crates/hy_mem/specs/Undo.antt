@@ -12,7 +12,8 @@ abbrev pub covered_total : ℕ → List (ℕ × ℕ) → ℕ
 covered_total size [] = 0
 covered_total size (range ∷ ranges) = covered_count size range + covered_total size ranges
 
--- The first `size` bytes as they were before these writes, of which the newest comes first. What the newest was over stands last in `covered`.
+-- The first `size` bytes as they were before these writes, of which the newest comes first. What the newest was over
+-- stands last in `covered`.
 abbrev pub restored : ℕ → List ℕ → List (ℕ × ℕ) → List ℕ → List ℕ
 restored size bytes [] covered = bytes
 restored size bytes (range ∷ earlier) covered =

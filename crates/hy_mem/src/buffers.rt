@@ -18,7 +18,8 @@ pub fn overwrite(bytes: &mut Vec<u8>, place: usize, piece: &[u8])
     bytes[place..place + inside].copy_from_slice(&piece[..inside]);
 }
 
-/// Puts back what writes were over, of which the newest is the last: of each as many bytes as it was over of those that there are here.
+/// Puts back what writes were over, of which the newest is the last: of each as many bytes as it was over of those
+/// that there are here.
 pub fn restore(bytes: &mut Vec<u8>, ranges: &[(usize, usize)], covered: &[u8])
     requires { covered_total (length bytes.old.items) (reverse ranges.now) ≡ length covered.now }
     ensures restored { bytes.new.items ≡ restored (length bytes.old.items) bytes.old.items (reverse ranges.now) covered.now }
@@ -60,7 +61,8 @@ pub fn fill_with_ff(bytes: &mut Vec<u8>, ranges: &[(usize, usize)])
 
 /// Fills a range with 0xFF, as far as the bytes go.
 fn fill_range(bytes: &mut Vec<u8>, place: usize, count: usize)
-    ensures filled { bytes.new.items ≡ overwritten bytes.old.items place (replicate (min count (length bytes.old.items - place)) 255) }
+    ensures filled { bytes.new.items
+        ≡ overwritten bytes.old.items place (replicate (min count (length bytes.old.items - place)) 255) }
     ensures len { length bytes.new.items ≡ length bytes.old.items }
     ensures capacity { vec_capacity bytes.new ≡ vec_capacity bytes.old }
 {

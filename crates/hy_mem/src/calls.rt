@@ -2,7 +2,8 @@
 ghost use Rattle.std.specs.Prelude.{◌≡◌, ◌-◌, ◌||◌, Some, IfOk, is_err, if◌then◌else◌};
 ghost use Rattle.std.specs.Option.{option_map};
 ghost use Rattle.hy_base.specs.Faults.{HasCause};
-ghost use Rattle.hy_mem.specs.DiskFailures.{after_change, after_read, change_fails, cleared, counted_call, fails_by_number, fresh_device_plan, read_fails, strikes_within};
+ghost use Rattle.hy_mem.specs.DiskFailures.{after_change, after_read, change_fails, cleared, counted_call, fails_by_number};
+ghost use Rattle.hy_mem.specs.DiskFailures.{fresh_device_plan, read_fails, strikes_within};
 
 use hy_disk::Failed;
 use std::alloc::{AllocError, Global};
@@ -26,7 +27,8 @@ impl Model for DeviceCalls {
 
     ghost Value = { DevicePlan };
 
-    ghost view = { λ c. record { fails = c.fails.items; passes = c.passes; armed = c.armed; made = c.made; faults = c.faults } };
+    ghost view = { λ c.
+        record { fails = c.fails.items; passes = c.passes; armed = c.armed; made = c.made; faults = c.faults } };
 }
 
 impl DeviceCalls {
@@ -115,7 +117,8 @@ impl DeviceCalls {
     /// The answer of a call, which is a fault where it fails.
     fn answer(&mut self, fails: bool) -> Result<(), Failed>
         ensures fails { is_err result ≡ fails }
-        ensures after { self.new ≡ record self.old { faults = if fails then counted_call self.old.faults else self.old.faults } }
+        ensures after { self.new
+            ≡ record self.old { faults = if fails then counted_call self.old.faults else self.old.faults } }
         ensures cause { HasCause self.old.faults self.new.faults result }
     {
         if fails {

@@ -1,5 +1,6 @@
 //! A device in memory.
-ghost use Rattle.std.specs.Prelude.{◌≡◌, ◌+◌, ◌-◌, ◌^◌, ◌<◌, ◌≤◌, ◌||◌, ℕ, [], length, min, true, not, Some, None, IfOk, OnOk, is_err, is_ok, if◌then◌else◌};
+ghost use Rattle.std.specs.Prelude.{◌≡◌, ◌+◌, ◌-◌, ◌^◌, ◌<◌, ◌≤◌, ◌||◌, ℕ, [], length, min, true, not, Some, None, IfOk, OnOk};
+ghost use Rattle.std.specs.Prelude.{is_err, is_ok, if◌then◌else◌};
 ghost use Rattle.hy_base.specs.Faults.{HasCause};
 ghost use Rattle.hy_disk.specs.Content.{Image, settled, with_pending, read_into};
 ghost use Rattle.hy_disk.specs.Moments.{Elapses};
@@ -135,7 +136,8 @@ impl Disk for MemDisk {
         ensures room_left { room_of self.new ≡ room_of self.old }
         ensures len { IfOk result (λ n. n ≡ length (content_of self.old).seen) }
         ensures same { content_of self.new ≡ content_of self.old }
-        ensures time { Elapses (moment_of self.old) (moment_of self.new) (left_since_of self.old) (left_since_of self.new) (content_of self.new) }
+        ensures time { Elapses (moment_of self.old) (moment_of self.new) (left_since_of self.old) (left_since_of self.new)
+            (content_of self.new) }
         ensures cause { HasCause (plan_of self.old).faults (plan_of self.new).faults result }
     {
         self.calls.read()?;
@@ -147,9 +149,11 @@ impl Disk for MemDisk {
         ensures fails { is_err result ≡ read_fails (plan_of self.old) }
         ensures plan { plan_of self.new ≡ after_read (plan_of self.old) (is_err result) }
         ensures room_left { room_of self.new ≡ room_of self.old }
-        ensures bytes { IfOk result (λ n. (n ≡ min (length into.old) (length (content_of self.old).seen - place)) × (into.new ≡ read_into (content_of self.old).seen place into.old)) }
+        ensures bytes { IfOk result (λ n. (n ≡ min (length into.old) (length (content_of self.old).seen - place))
+            × (into.new ≡ read_into (content_of self.old).seen place into.old)) }
         ensures same { content_of self.new ≡ content_of self.old }
-        ensures time { Elapses (moment_of self.old) (moment_of self.new) (left_since_of self.old) (left_since_of self.new) (content_of self.new) }
+        ensures time { Elapses (moment_of self.old) (moment_of self.new) (left_since_of self.old) (left_since_of self.new)
+            (content_of self.new) }
         ensures cause { HasCause (plan_of self.old).faults (plan_of self.new).faults result }
     {
         self.calls.read()?;
@@ -164,11 +168,17 @@ impl Disk for MemDisk {
     fn write_at(&mut self, place: u64, bytes: &[u8]) -> Result<(), Failed>
         requires within { place ≤ length (content_of self.old).seen }
         requires fits { place + length bytes.now < 2 ^ 64 }
-        ensures fails { is_err result ≡ (not (is_room_for (length bytes.now) (room_of self.old)) || change_fails (plan_of self.old)) }
+        ensures fails { is_err result
+            ≡ (not (is_room_for (length bytes.now) (room_of self.old)) || change_fails (plan_of self.old)) }
         ensures plan { plan_of self.new ≡ after_change (plan_of self.old) (is_err result) }
-        ensures after { content_of self.new ≡ (if is_room_for (length bytes.now) (room_of self.old) then with_pending (content_of self.old) place bytes.now else content_of self.old) }
-        ensures room_left { room_of self.new ≡ (if is_room_for (length bytes.now) (room_of self.old) then room_after (length bytes.now) (room_of self.old) else room_of self.old) }
-        ensures time { Elapses (moment_of self.old) (moment_of self.new) (left_since_of self.old) (left_since_of self.new) (content_of self.new) }
+        ensures after { content_of self.new ≡ (if is_room_for (length bytes.now) (room_of self.old)
+            then with_pending (content_of self.old) place bytes.now
+            else content_of self.old) }
+        ensures room_left { room_of self.new ≡ (if is_room_for (length bytes.now) (room_of self.old)
+            then room_after (length bytes.now) (room_of self.old)
+            else room_of self.old) }
+        ensures time { Elapses (moment_of self.old) (moment_of self.new) (left_since_of self.old) (left_since_of self.new)
+            (content_of self.new) }
         ensures cause { HasCause (plan_of self.old).faults (plan_of self.new).faults result }
     {
         let has_room = self.room.is_for(bytes.len());
@@ -185,9 +195,11 @@ impl Disk for MemDisk {
     fn sync(&mut self) -> Result<(), Failed>
         ensures fails { is_err result ≡ (not (is_room_for 0 (room_of self.old)) || change_fails (plan_of self.old)) }
         ensures plan { plan_of self.new ≡ after_change (plan_of self.old) (is_err result) }
-        ensures after { content_of self.new ≡ (if is_ok result then settled (content_of self.old).seen else content_of self.old) }
+        ensures after { content_of self.new ≡ (if is_ok result then settled (content_of self.old).seen
+            else content_of self.old) }
         ensures room_left { room_of self.new ≡ (if is_ok result then room_after 0 (room_of self.old) else room_of self.old) }
-        ensures time { Elapses (moment_of self.old) (moment_of self.new) (left_since_of self.old) (left_since_of self.new) (content_of self.new) }
+        ensures time { Elapses (moment_of self.old) (moment_of self.new) (left_since_of self.old) (left_since_of self.new)
+            (content_of self.new) }
         ensures cause { HasCause (plan_of self.old).faults (plan_of self.new).faults result }
     {
         let has_room = self.room.is_for(0);
@@ -207,11 +219,14 @@ impl Tuned for MemDisk {
 
     /// The room grows to exactly so much, where it was less. Running out of memory leaves it as it was.
     fn room(&mut self, bytes: usize, calls: usize) -> Result<(), AllocError>
-        ensures room_left { room_of self.new ≡ (if is_ok result then widened calls bytes (room_of self.old) else room_of self.old) }
-        ensures before { OnOk result ((k : ℕ) → Strikes self.old (k + 1) → HasRoom self.old 0 0 → HasRoom self.new (min (calls - 1) k) bytes) }
+        ensures room_left { room_of self.new ≡ (if is_ok result then widened calls bytes (room_of self.old)
+            else room_of self.old) }
+        ensures before { OnOk result ((k : ℕ) → Strikes self.old (k + 1) → HasRoom self.old 0 0
+            → HasRoom self.new (min (calls - 1) k) bytes) }
         ensures plan { plan_of self.new ≡ plan_of self.old }
         ensures same { content_of self.new ≡ content_of self.old }
-        ensures time { Elapses (moment_of self.old) (moment_of self.new) (left_since_of self.old) (left_since_of self.new) (content_of self.new) }
+        ensures time { Elapses (moment_of self.old) (moment_of self.new) (left_since_of self.old) (left_since_of self.new)
+            (content_of self.new) }
     {
         self.store.reserve(calls, bytes)?;
         self.room = self.room.widened(calls, bytes);
@@ -223,7 +238,8 @@ impl Tuned for MemDisk {
         ensures plan { plan_of self.new ≡ record (plan_of self.old) { armed = Some k } }
         ensures room_left { room_of self.new ≡ room_of self.old }
         ensures same { content_of self.new ≡ content_of self.old }
-        ensures time { Elapses (moment_of self.old) (moment_of self.new) (left_since_of self.old) (left_since_of self.new) (content_of self.new) }
+        ensures time { Elapses (moment_of self.old) (moment_of self.new) (left_since_of self.old) (left_since_of self.new)
+            (content_of self.new) }
     {
         self.calls.arm(k);
     }

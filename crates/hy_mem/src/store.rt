@@ -8,9 +8,9 @@ use crate::mark::SyncMark;
 use std::alloc::{AllocError, Global};
 use std::marker::Model;
 
-/// The bytes that a read gives, the place and size of each write, the oldest first, and the bytes that these were over, one after another. A
-/// write is over bytes of the last sync alone; what lay past them is told by how many they were. So what was held at each sync is told from what is
-/// held now, and no byte is kept twice.
+/// The bytes that a read gives, the place and size of each write, the oldest first, and the bytes that these were over, one
+/// after another. A write is over bytes of the last sync alone; what lay past them is told by how many they were. So what was
+/// held at each sync is told from what is held now, and no byte is kept twice.
 #[derive(Drop)]
 pub struct Store {
     bytes: Vec<u8>,
@@ -29,7 +29,13 @@ impl Model for Store {
 
     ghost Value = { Stored };
 
-    ghost view = { λ s. record { content = content_at s.last s.bytes.items s.ranges.items s.covered.items; before = contents_before (reverse s.syncs.items) (content_at s.last s.bytes.items s.ranges.items s.covered.items).synced (take s.last.ranges s.ranges.items) (take s.last.covered s.covered.items); calls = min (vec_capacity s.ranges - length s.ranges.items) (vec_capacity s.syncs - length s.syncs.items); bytes = min (vec_capacity s.bytes - length s.bytes.items) (vec_capacity s.covered - length s.covered.items) } };
+    ghost view = { λ s. record {
+      content = content_at s.last s.bytes.items s.ranges.items s.covered.items;
+      before = contents_before (reverse s.syncs.items) (content_at s.last s.bytes.items s.ranges.items s.covered.items).synced
+          (take s.last.ranges s.ranges.items) (take s.last.covered s.covered.items);
+      calls = min (vec_capacity s.ranges - length s.ranges.items) (vec_capacity s.syncs - length s.syncs.items);
+      bytes = min (vec_capacity s.bytes - length s.bytes.items) (vec_capacity s.covered - length s.covered.items);
+    } };
 
     ghost invariant = { λ s. IsStore s.last s.bytes.items s.ranges.items s.covered.items };
 }

@@ -1,5 +1,6 @@
 //! The log.
-ghost use Rattle.std.specs.Prelude.{◌≡◌, ◌⊎◌, ◌+◌, ◌<◌, ◌≤◌, [], length, Some, None, IfOk, IfSome, IsErr, OnOk, OnErr, is_none, option_map};
+ghost use Rattle.std.specs.Prelude.{◌≡◌, ◌⊎◌, ◌+◌, ◌<◌, ◌≤◌, [], length, Some, None, IfOk, IfSome, IsErr, OnOk, OnErr, is_none};
+ghost use Rattle.std.specs.Prelude.{option_map};
 ghost use Rattle.hy_base.specs.Shape.{IsGoodShape};
 ghost use Rattle.hy_formats.specs.LogFormat.{IsBody};
 ghost use Rattle.hy_memlog.specs.Pages.{Pages, IsStop, with_body, broken_log};
@@ -64,7 +65,9 @@ impl MemLog {
         requires body { IsBody self.old.shape.version body.now }
         requires few { count ≤ 8 }
         requires room_left { IfSome self.old.bodies (λ bodies. length bodies + count ≤ self.old.shape.cap) }
-        ensures ok { OnOk result (self.new ≡ record self.old { bodies = option_map (with_body None count body.now) self.old.bodies }) }
+        ensures ok { OnOk result (self.new ≡ record self.old {
+          bodies = option_map (with_body None count body.now) self.old.bodies;
+        }) }
         ensures err { OnErr result (self.new ≡ self.old) }
         ensures broken { self.old.bodies ≡ None → IsErr result }
     {
@@ -85,7 +88,9 @@ impl MemLog {
         requires body { IsBody self.old.shape.version body.now }
         requires room_left { IfSome self.old.bodies (λ bodies. length bodies < self.old.shape.cap) }
         requires stop { IsStop stop }
-        ensures ok { OnOk result (self.new ≡ record self.old { bodies = option_map (with_body (Some stop) 1 body.now) self.old.bodies }) }
+        ensures ok { OnOk result (self.new ≡ record self.old {
+          bodies = option_map (with_body (Some stop) 1 body.now) self.old.bodies;
+        }) }
         ensures err { OnErr result ((self.new ≡ self.old) ⊎ (self.new ≡ broken_log self.old)) }
         ensures broken { self.old.bodies ≡ None → IsErr result }
     {

@@ -1,5 +1,6 @@
 //! The page log under it: room before each append, a stop in one, and what is opened then.
-ghost use Rattle.std.specs.Prelude.{◌≡◌, ◌+◌, ◌*◌, ◌<◌, ◌≤◌, ◌++◌, [], ◌∷◌, ℕ, List, length, replicate, Ok, Some, IfOk, IfErr, OnOk};
+ghost use Rattle.std.specs.Prelude.{◌≡◌, ◌+◌, ◌*◌, ◌<◌, ◌≤◌, ◌++◌, [], ◌∷◌, ℕ, List, length, replicate, Ok, Some, IfOk, IfErr};
+ghost use Rattle.std.specs.Prelude.{OnOk};
 ghost use Rattle.hy_base.specs.Shape.{IsGoodShape};
 ghost use Rattle.hy_formats.specs.LogFormat.{IsBody, uncut};
 ghost use Rattle.hy_formats.specs.LogDevice.{Holds};
@@ -33,7 +34,8 @@ fn put(log: &mut PageLog<MemDisk>, body: &[u8])
     requires body { IsBody log.old.shape.version body.now }
     requires ready { HasRoomFor (length body.now) 1 log.old }
     requires room_left { length log.old.bodies < log.old.shape.cap }
-    ensures ready { (count : ℕ) → HasRoomFor (length body.now) (count + 1) log.old → HasRoomFor (length body.now) count log.new }
+    ensures ready { (count : ℕ) → HasRoomFor (length body.now) (count + 1) log.old
+        → HasRoomFor (length body.now) count log.new }
     ensures shape { log.new.shape ≡ log.old.shape }
     ensures bodies { log.new.bodies ≡ log.old.bodies ++ body.now ∷ [] }
 {
@@ -90,7 +92,8 @@ fn reopen(alloc: Global, disk: MemDisk, shape: Shape) -> Result<PageLog<MemDisk>
     requires unarmed { IsUnarmed (Strikes disk) }
     requires holds { (bodies : List (List ℕ)) × Holds (uncut shape) bodies (content_of disk).seen }
     ensures steady { IfOk result IsSteady }
-    ensures log { (bodies : List (List ℕ)) → Holds (uncut shape) bodies (content_of disk).seen → IfOk result (λ log. (log.shape ≡ shape) × (log.bodies ≡ bodies)) }
+    ensures log { (bodies : List (List ℕ)) → Holds (uncut shape) bodies (content_of disk).seen
+        → IfOk result (λ log. (log.shape ≡ shape) × (log.bodies ≡ bodies)) }
 {
     opened(open_log(alloc, disk, Some(shape)))
 }

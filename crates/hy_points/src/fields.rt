@@ -4,7 +4,8 @@ ghost use Rattle.hy_base.specs.Rows.{is_purgeable};
 ghost use Rattle.hy_base.specs.Shape.{IsGoodShape, before_horizon};
 ghost use Rattle.hy_formats.specs.Reading.{items_at};
 ghost use Rattle.hy_codec.specs.EntryReading.{Gives};
-ghost use Rattle.hy_formats.specs.PointFormat.{position_at, point_head_at, saved_row_at, flag_at, point_body_at, whole_point_body};
+ghost use Rattle.hy_formats.specs.PointFormat.{position_at, point_head_at, saved_row_at, flag_at, point_body_at};
+ghost use Rattle.hy_formats.specs.PointFormat.{whole_point_body};
 ghost use Rattle.hy_points.specs.PointReading.{point_head_of, body_of};
 
 use hy_base::{Key, Pos, Row, Shape};

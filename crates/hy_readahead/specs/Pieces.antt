@@ -6,7 +6,10 @@ use Rattle.hy_readahead.specs.declared.piece.Piece.{Piece}
 -- as many of the device's bytes from its place on as there is room for, or as there are
 abbrev pub IsHeld : Bool → List ℕ → List ℕ → Held → Type 0
 IsHeld tells seen bytes held =
-    (held.count ≤ length bytes) × (IsTrue tells → (held.count ≡ length (take (length bytes) (drop held.place seen))) × (take held.count bytes ≡ take (length bytes) (drop held.place seen)))
+    (held.count ≤ length bytes)
+    × (IsTrue tells
+    → (held.count ≡ length (take (length bytes) (drop held.place seen)))
+    × (take held.count bytes ≡ take (length bytes) (drop held.place seen)))
 
 abbrev pub IsPiece : Bool → List ℕ → Piece → Type 0
 IsPiece tells seen piece = IfSome piece.held (IsHeld tells seen piece.bytes.items)

@@ -45,7 +45,8 @@ pub(crate) fn bring<D: Disk>(
     ensures right { IsPiece D.tells (D.content disk.old).seen piece.new }
     ensures covers { OnOk result (Covers place len piece.new) }
     ensures same { D.content disk.new ≡ D.content disk.old }
-    ensures time { Elapses (D.moment disk.old) (D.moment disk.new) (D.left_since disk.old) (D.left_since disk.new) (D.content disk.new) }
+    ensures time { Elapses (D.moment disk.old) (D.moment disk.new) (D.left_since disk.old) (D.left_since disk.new)
+        (D.content disk.new) }
     ensures cause { HasCause (D.faults_of disk.old) (D.faults_of disk.new) result }
     ensures room { (k b : ℕ) → D.has_room disk.old k b → IsOk result × D.has_room disk.new k b }
 {
@@ -62,7 +63,8 @@ pub(crate) fn bring<D: Disk>(
 pub(crate) fn give(piece: &Piece, place: u64, into: &mut [u8]) -> usize
     requires covers { Covers place (length into.old) piece.now }
     ensures count { result ≤ length into.old }
-    ensures bytes { (tells : _) (seen : List ℕ) → IsPiece tells seen piece.now → IsTrue tells → (result ≡ min (length into.old) (length seen - place)) × (into.new ≡ read_into seen place into.old) }
+    ensures bytes { (tells : _) (seen : List ℕ) → IsPiece tells seen piece.now → IsTrue tells
+        → (result ≡ min (length into.old) (length seen - place)) × (into.new ≡ read_into seen place into.old) }
 {
     let Some(held) = piece.held else {
         unreachable!();

@@ -1,6 +1,7 @@
 -- Rolling: groups are validated one after another by the rows alone, without the history.
 --     Of each key a row keeps the last writer, and that is enough to judge by.
-use Rattle.std.specs.Prelude.{◌≡◌, ℕ, zero, suc, ◌+◌, ◌*◌, ◌%◌, ◌≤◌, max, Bool, List, [], ◌∷◌, ◌++◌, length, map, take, drop, ◌/◌, ◌-◌, Option, None, nat_lt, ◌==◌, if◌then◌else◌}
+use Rattle.std.specs.Prelude.{◌≡◌, ℕ, zero, suc, ◌+◌, ◌*◌, ◌%◌, ◌≤◌, max, Bool, List, [], ◌∷◌, ◌++◌, length, map, take, drop}
+use Rattle.std.specs.Prelude.{◌/◌, ◌-◌, Option, None, nat_lt, ◌==◌, if◌then◌else◌}
 use Rattle.hy_base.specs.declared.layout.Shape.{Shape}
 use Rattle.hy_base.specs.declared.record.EntryKind.{EntryKind}
 use Rattle.hy_base.specs.declared.record.EntryKind.TheVariants.{Filler, Txn}
@@ -13,17 +14,23 @@ use Rattle.hy_base.specs.Marks.{MarkSet, AreMarks, lesser, first_late, known_to}
 use Rattle.hy_base.specs.Later.{Later}
 use Rattle.hy_formats.specs.Checkpoint.{base_behind}
 use Rattle.hy_rules.specs.History.{commits_past, flagged_history}
-use Rattle.hy_rules.specs.Validation.{Standing, Filling, Dropped, Joined, dropped_or_joined, joined_writes, group_writes, fate_of, fated, verdicts_after, rows_after}
+use Rattle.hy_rules.specs.Validation.{Standing, Filling, Dropped, Joined, dropped_or_joined, joined_writes, group_writes}
+use Rattle.hy_rules.specs.Validation.{fate_of, fated, verdicts_after, rows_after}
 
--- A member as it is staged: dropped where its snapshot is too old, checked against the rows at the base by its snapshot, and then against the newest writes of the members that joined before it.
+-- A member as it is staged: dropped where its snapshot is too old, checked against the rows at the base by its snapshot, and
+-- then against the newest writes of the members that joined before it.
 abbrev pub staged_as : List Row → ℕ → ℕ → List Row → EntryKind → Standing
 staged_as base_rows oldest base joined (Filler server) = Filling
-staged_as base_rows oldest base joined (Txn i) = dropped_or_joined (nat_lt i.snap oldest) (first_late (known_to i.snap i) base_rows) (first_late (known_to (max i.snap base) i) (newest joined)) i
+staged_as base_rows oldest base joined (Txn i) =
+    dropped_or_joined (nat_lt i.snap oldest) (first_late (known_to i.snap i) base_rows)
+    (first_late (known_to (max i.snap base) i) (newest joined)) i
 
 -- the members of a group staged in order, the first of these at a position
 abbrev pub staged_members : List Row → ℕ → ℕ → ℕ → List Row → List EntryKind → List Standing
 staged_members base_rows oldest base pos joined [] = []
-staged_members base_rows oldest base pos joined (e ∷ es) = let m = staged_as base_rows oldest base joined e in m ∷ staged_members base_rows oldest base (pos + 1) (joined ++ joined_writes pos m) es
+staged_members base_rows oldest base pos joined (e ∷ es) =
+    let m = staged_as base_rows oldest base joined e in
+    m ∷ staged_members base_rows oldest base (pos + 1) (joined ++ joined_writes pos m) es
 
 -- up to which position a joined member knows the writers of a key that it touches
 abbrev pub known_of : ℕ → Standing → ℕ → Option ℕ
@@ -52,7 +59,8 @@ after_fate (Pre c) rows writes = rows
 after_fate (Mate c) rows writes = rows
 after_fate (Final c) rows writes = rows
 
--- how many groups are judged, the rows then, those at the premeld base of the next group, those before its window, and the verdicts
+-- how many groups are judged, the rows then, those at the premeld base of the next group, those before its
+-- window, and the verdicts
 pub record Rolled : Type 0 where
   pub groups : ℕ
   pub tree : List Row
@@ -66,14 +74,17 @@ not_rolled = record { groups = 0; tree = []; base_tree = []; kept = []; verdicts
 
 -- The members of the next group. Of the rows only those at its base are read, so all groups of a window can be staged at once.
 abbrev pub staged_next : Shape → Rolled → List EntryKind → List Standing
-staged_next s r entries = staged_members r.base_tree (oldest_snap s r.groups) (s.group * base_groups s r.groups) (s.group * r.groups + 1) [] entries
+staged_next s r entries =
+    staged_members r.base_tree (oldest_snap s r.groups) (s.group * base_groups s r.groups) (s.group * r.groups + 1) [] entries
 
--- The next group is finished on the rows. With the last group of a window the line moves up, and tombstones at or below it are left out.
--- With the last group of a window the rows kept become the base rows of the next window, and the rows after the group are kept.
+-- The next group is finished on the rows. With the last group of a window the line moves up, and tombstones at or below
+-- it are left out. With the last group of a window the rows kept become the base rows of the next window, and the rows
+-- after the group are kept.
 abbrev pub finished : Shape → Rolled → List Standing → Rolled
 finished s r ms =
     let fate : Verdict = fate_on r.tree (s.group * base_groups s r.groups) ms in
-    let tree : List Row = purged (line_after s (r.groups + 1)) (after_fate fate r.tree (group_writes (s.group * r.groups + 1) ms)) in
+    let tree : List Row =
+    purged (line_after s (r.groups + 1)) (after_fate fate r.tree (group_writes (s.group * r.groups + 1) ms)) in
     let turns : Bool = (r.groups + 1) % s.window == 0 in
     record {
       groups = r.groups + 1;
@@ -104,8 +115,9 @@ pub record HasRolled (s : Shape) (front : List EntryKind) (r : Rolled) : Type 0 
 abbrev pub AreWritten : List Row → Type 0
 AreWritten rows = Each (λ x. 1 ≤ x.writer) rows
 
--- What it keeps, whether or not it stands for a log: its rows are in order, of writers up to its last group, and grew out of its base rows and out of those that it keeps. Each of these rows was written at some position,
--- and none of them is a tombstone at or below its line.
+-- What it keeps, whether or not it stands for a log: its rows are in order, of writers up to its last group, and grew out of
+-- its base rows and out of those that it keeps. Each of these rows was written at some position, and none of them is a
+-- tombstone at or below its line.
 pub record IsRolled (s : Shape) (r : Rolled) : Type 0 where
   pub ordered : IsOrdered r.tree
   pub bounded : Each (λ x. x.writer ≤ s.group * r.groups) r.tree
@@ -118,7 +130,8 @@ pub record IsRolled (s : Shape) (r : Rolled) : Type 0 where
   pub base_left : Agrees (before_horizon s.horizon (s.group * base_groups s r.groups)) r.base_tree r.base_tree
   pub kept_left : Agrees (line_after s r.groups) r.kept r.kept
 
--- A tree from which the rows are read. It agrees with them, and is just these rows at a window's end. Between, tombstones at or below the line may come back with parts of the base rows.
+-- A tree from which the rows are read. It agrees with them, and is just these rows at a window's end. Between, tombstones at or
+-- below the line may come back with parts of the base rows.
 pub record IsTreeOf (s : Shape) (r : Rolled) (tree : List Row) : Type 0 where
   pub ordered : IsOrdered tree
   pub bounded : Each (λ x. x.writer ≤ s.group * r.groups) tree
@@ -127,7 +140,8 @@ pub record IsTreeOf (s : Shape) (r : Rolled) (tree : List Row) : Type 0 where
   pub agrees : Agrees (line_after s r.groups) tree r.tree
   pub at_window_end : r.groups % s.window ≡ 0 → tree ≡ r.tree
 
--- What a roller is: of a log with this shape it has rolled the first groups. It keeps the verdicts past a position, and which entries committed past the premeld base of the next group.
+-- What a roller is: of a log with this shape it has rolled the first groups. It keeps the verdicts past a position, and which
+-- entries committed past the premeld base of the next group.
 pub record Roll : Type 0 where
   pub shape : Shape
   pub from : ℕ
@@ -145,7 +159,8 @@ next_base r = r.shape.group * base_groups r.shape r.rolled.groups
 abbrev pub new_roll : Shape → Roll
 new_roll s = record { shape = s; from = 0; rolled = not_rolled; commits = [] }
 
--- Resumed at a position: from the rows at the premeld base of the next group, the entries past it up to the position, and which of these committed. The rows at the start of the next group's window are kept on the way. It keeps no verdicts from before.
+-- Resumed at a position: from the rows at the premeld base of the next group, the entries past it up to the position, and which
+-- of these committed. The rows at the start of the next group's window are kept on the way. It keeps no verdicts from before.
 abbrev pub resumed : Shape → ℕ → List Row → List EntryKind → List Bool → Roll
 resumed s pos base_rows entries flags =
     let groups : ℕ = pos / s.group in
@@ -157,7 +172,8 @@ resumed s pos base_rows entries flags =
         groups = groups;
         tree = purged (line_after s groups) (applied base_rows (flagged_history (base + 1) entries flags));
         base_tree = base_rows;
-        kept = purged (line_after s groups) (applied base_rows (flagged_history (base + 1) entries (take (s.group * kept_groups s groups - base) flags)));
+        kept = purged (line_after s groups)
+            (applied base_rows (flagged_history (base + 1) entries (take (s.group * kept_groups s groups - base) flags)));
         verdicts = [];
       };
       commits = flags;
@@ -165,7 +181,9 @@ resumed s pos base_rows entries flags =
 
 -- the commits past the next base of a later roll, where those past the next base of the earlier one are known
 abbrev pub commits_on : Shape → Rolled → Rolled → List Bool → List Bool
-commits_on s r later commits = drop (s.group * base_groups s later.groups - s.group * base_groups s r.groups) (commits ++ commits_past (length r.verdicts) later.verdicts)
+commits_on s r later commits =
+    drop (s.group * base_groups s later.groups - s.group * base_groups s r.groups) (commits
+    ++ commits_past (length r.verdicts) later.verdicts)
 
 -- further by the groups of these entries
 abbrev pub roll_on : Roll → List EntryKind → Roll

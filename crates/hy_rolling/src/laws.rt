@@ -1,5 +1,8 @@
 //! Groups that are validated one after another by the rows alone. Each law is the contract of a function that does nothing.
-ghost use Rattle.hy_rolling.specs.RollingLaws.{LastWritersAreEnough, AdvanceIsPre, RaisedKnow, EmptyGroup, JoinedGroup, SkippedGroup, JoinIsMate, GroupMarksAreOwn, StagedAreStandings, FinishIsFate, FinishIsRows, NewRollerStands, RollExtends, AnyCutRollsTheSame, StandingIsOne, StandingIsLater, RollKeepsLater, TreeFollows, CommitsMoveOn, CommitsGiveRows};
+ghost use Rattle.hy_rolling.specs.RollingLaws.{LastWritersAreEnough, AdvanceIsPre, RaisedKnow, EmptyGroup, JoinedGroup};
+ghost use Rattle.hy_rolling.specs.RollingLaws.{SkippedGroup, JoinIsMate, GroupMarksAreOwn, StagedAreStandings, FinishIsFate};
+ghost use Rattle.hy_rolling.specs.RollingLaws.{FinishIsRows, NewRollerStands, RollExtends, AnyCutRollsTheSame, StandingIsOne};
+ghost use Rattle.hy_rolling.specs.RollingLaws.{StandingIsLater, RollKeepsLater, TreeFollows, CommitsMoveOn, CommitsGiveRows};
 
 /// The last writer of each key is enough to find the first clash.
 pub fn last_writers_are_enough()

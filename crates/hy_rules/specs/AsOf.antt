@@ -11,7 +11,8 @@ pub record Asks (script : Workload) (client number pos : ℕ) : Type 0 where
   pub is : program_of script client number ≡ Some program
   pub asks : program.as_of ≡ Some pos
 
--- one that read did so at that position; one that was not begun asked for one below the least that its server kept, or above its board
+-- one that read did so at that position; one that was not begun asked for one below the least that its server
+-- kept, or above its board
 abbrev pub EndsAsAsked : ℕ → ℕ → Ending → Type 0
 EndsAsAsked pos snap ByReading = snap ≡ pos
 EndsAsAsked pos snap (ByPast from) = pos < from

@@ -1,5 +1,6 @@
 -- Logs that were cut: the entries up to a position are gone, and a saved point at or past it tells what they left.
---     What is said of such a log is said of each whole log that it may be the rest of. Of a log that wasn't cut there is just one: its own entries.
+--     What is said of such a log is said of each whole log that it may be the rest of. Of a log that wasn't cut there is just
+--     one: its own entries.
 use Rattle.std.specs.Prelude.{◌≡◌, ℕ, ◌+◌, ◌≤◌, List, ◌++◌, length, drop, replicate, Option}
 use Rattle.hy_base.specs.declared.layout.Shape.{Shape}
 use Rattle.hy_base.specs.declared.record.EntryKind.{EntryKind}
@@ -12,8 +13,10 @@ use Rattle.hy_rules.specs.Moves.{LeadTo, State}
 use Rattle.hy_rules.specs.Runs.{opening_of, setting_of}
 use Rattle.hy_rules.specs.SavedPoints.{StandsIfAny}
 
--- A whole log of which these are the entries past a position: so many others stand before them, whichever, it is lawful, and the point stands for it, if there is one.
-pub record IsWholeOf (s : Shape) (from : ℕ) (entries : List EntryKind) (point : Option Checkpoint) (log : List EntryKind) : Type 0 where
+-- A whole log of which these are the entries past a position: so many others stand before them, whichever, it is lawful, and
+-- the point stands for it, if there is one.
+pub record IsWholeOf (s : Shape) (from : ℕ) (entries : List EntryKind) (point : Option Checkpoint)
+    (log : List EntryKind) : Type 0 where
   pub before : List EntryKind
   pub cut : length before ≡ from
   pub whole : before ++ entries ≡ log
@@ -37,6 +40,9 @@ starting_with before log = before ++ drop (length before) log
 abbrev pub swapped : List EntryKind → State → State
 swapped before s = record s { log = starting_with before s.log }
 
--- Whichever entries stood up to the cut: these events, each of which may happen in its turn, lead from the entries found past it to this state, with those in its log.
+-- Whichever entries stood up to the cut: these events, each of which may happen in its turn, lead from the entries found past
+-- it to this state, with those in its log.
 abbrev pub LeadPast : Workload → ℕ → List EntryKind → List Event → State → Type 0
-LeadPast script from found events end = (before : List EntryKind) → length before ≡ from → LeadTo (setting_of script) (opening_of script (before ++ found)) events (swapped before end)
+LeadPast script from found events end =
+    (before : List EntryKind) → length before ≡ from
+    → LeadTo (setting_of script) (opening_of script (before ++ found)) events (swapped before end)

@@ -19,7 +19,8 @@ use Rattle.hy_run.specs.declared.status.Status.TheVariants as status
 use Rattle.hy_run.specs.declared.status.Which.{Which}
 use Rattle.hy_run.specs.declared.status.Which.TheVariants as which
 
--- the ends of a call at a moment: what the source has left and what the sink has taken, if they tell it, and their counts of faults
+-- the ends of a call at a moment: what the source has left and what the sink has taken, if they tell it, and
+-- their counts of faults
 pub record Ends : Type 0 where
   pub left : Option Text
   pub source_faults : ℕ
@@ -27,7 +28,8 @@ pub record Ends : Type 0 where
   pub sink_faults : ℕ
 
 abbrev pub ends_at : Option Text → ℕ → Option Text → ℕ → Ends
-ends_at left source_faults taken sink_faults = record { left = left; source_faults = source_faults; taken = taken; sink_faults = sink_faults }
+ends_at left source_faults taken sink_faults =
+    record { left = left; source_faults = source_faults; taken = taken; sink_faults = sink_faults }
 
 -- ---- what a job uses, and how it leaves that
 
@@ -53,28 +55,36 @@ LeavesSourceBy false answer before now faults faults_now = Keeps before now × (
 -- ---- the call
 
 -- A job is done from these ends to those, with these devices.
-pub record IsObeyed (m : JobMeaning) (before after : Ends) (log points spare : Over) (answer : Status) (acked : ℕ) : Type 0 where
+pub record IsObeyed (m : JobMeaning) (before after : Ends) (log points spare : Over) (answer : Status)
+    (acked : ℕ) : Type 0 where
   -- What became of the log, and the saved point from which a run began, if it began from one.
   pub fate : Fate
   pub start : Option Checkpoint
-  -- What the answer says: the text that is asked for has gone out, or a part of it where the sink failed, or else why there is none.
-  pub right : by_kind
-      ((text : Text) × m.text before.left log points spare fate start text × Appends before.taken after.taken text)
-      (m.script_refused before.left)
-      (m.stream_refused before.left)
-      (m.log_refused before.left log points spare answer)
+  -- What the answer says: the text that is asked for has gone out, or a part of it where the sink failed, or
+  -- else why there is none.
+  pub right :
+      by_kind ((text : Text) × m.text before.left log points spare fate start text × Appends before.taken after.taken text)
+      (m.script_refused before.left) (m.stream_refused before.left) (m.log_refused before.left log points spare answer)
       (SourceFails m.reads before.source_faults after.source_faults)
-      ((text : Text) × m.text before.left log points spare fate start text × WritesPartOf before.taken after.taken text × Rose before.sink_faults after.sink_faults)
-      (JobDeviceFails m log points spare)
-      (kind_of answer)
+      ((text : Text)
+      × m.text before.left log points spare fate start text
+      × WritesPartOf before.taken after.taken text
+      × Rose before.sink_faults after.sink_faults)
+      (JobDeviceFails m log points spare) (kind_of answer)
   pub comes_first : Fits m.options m.copies answer points fate
   -- Which it must be, unless memory runs out or an end or a device fails.
-  pub fine_always : m.can before.left log points spare
-      → (answer ≡ status.Fine) ⊎ ((answer ≡ status.Memory) ⊎ (SourceFails m.reads before.source_faults after.source_faults ⊎ (SomeDeviceFails m log points spare ⊎ Rose before.sink_faults after.sink_faults)))
-  pub script_always : IfSome before.left (λ bytes. (n : ℕ) (why : Why) → m.refuses_script bytes n why → (answer ≡ status.Script n why) ⊎ ((answer ≡ status.Memory) ⊎ SourceFails m.reads before.source_faults after.source_faults))
-  pub stream_always : IfSome before.left (λ bytes. (bad : BadFrame) → m.refuses_stream bytes bad → (answer ≡ status.Frame bad.place bad.why) ⊎ ((answer ≡ status.Memory) ⊎ SourceFails m.reads before.source_faults after.source_faults))
-  pub log_always : IsTrue log.tells → (why : Status) → m.refuses_log before.left log points spare why
-      → (answer ≡ why) ⊎ ((answer ≡ status.Memory) ⊎ (SourceFails m.reads before.source_faults after.source_faults ⊎ SomeDeviceFails m log points spare))
+  pub fine_always : m.can before.left log points spare → (answer ≡ status.Fine)
+      ⊎ ((answer ≡ status.Memory) ⊎ (SourceFails m.reads before.source_faults after.source_faults
+      ⊎ (SomeDeviceFails m log points spare ⊎ Rose before.sink_faults after.sink_faults)))
+  pub script_always : IfSome before.left (λ bytes. (n : ℕ) (why : Why)
+      → m.refuses_script bytes n why → (answer ≡ status.Script n why)
+      ⊎ ((answer ≡ status.Memory) ⊎ SourceFails m.reads before.source_faults after.source_faults))
+  pub stream_always : IfSome before.left (λ bytes. (bad : BadFrame)
+      → m.refuses_stream bytes bad → (answer ≡ status.Frame bad.place bad.why)
+      ⊎ ((answer ≡ status.Memory) ⊎ SourceFails m.reads before.source_faults after.source_faults))
+  pub log_always : IsTrue log.tells → (why : Status) → m.refuses_log before.left log points spare why → (answer ≡ why)
+      ⊎ ((answer ≡ status.Memory)
+      ⊎ (SourceFails m.reads before.source_faults after.source_faults ⊎ SomeDeviceFails m log points spare))
   -- What is left.
   pub source : LeavesSourceBy m.reads answer before.left after.left before.source_faults after.source_faults
   pub may_leave : m.may_leave before.left log fate
@@ -90,17 +100,24 @@ abbrev pub Means : List Text → Line → Type 0
 Means words line = (line_of words ≡ Some line) ⊎ Asks words line
 
 -- A call by these words, from these ends to those, with these devices.
-pub record IsCall (words : List Text) (before after : Ends) (log points spare : Over) (answer : Status) (acked : ℕ) : Type 0 where
+pub record IsCall (words : List Text) (before after : Ends) (log points spare : Over) (answer : Status)
+    (acked : ℕ) : Type 0 where
   -- A line is obeyed, and a first word that is no command isn't. Words that are refused touch nothing.
   pub usage : answer ≡ status.Usage → refuses words
   pub usage_always : refuses words → (answer ≡ status.Usage) ⊎ (answer ≡ status.Memory)
   pub unknown : names_command words ≡ false → (answer ≡ status.Usage) ⊎ (answer ≡ status.Memory)
-  pub untouched : refuses words → Keeps before.left after.left × (after.source_faults ≡ before.source_faults) × log.uncalled × points.uncalled × spare.uncalled × (acked ≡ 0)
+  pub untouched : refuses words → Keeps before.left after.left
+      × (after.source_faults ≡ before.source_faults)
+      × log.uncalled
+      × points.uncalled
+      × spare.uncalled
+      × (acked ≡ 0)
   -- Any other words ask for a line, and its command is done.
   pub asked : refuses words ⊎ ((line : Line) × Asks words line)
   pub obeyed : (line : Line) → Means words line → IsObeyed (meaning (job_of line)) before after log points spare answer acked
   -- An answer without a text writes its line, or a part of it where the sink failed.
-  pub told : (text : Text) → fault_text answer ≡ Some text → WritesLine before.taken after.taken before.sink_faults after.sink_faults text
+  pub told : (text : Text) → fault_text answer ≡ Some text
+      → WritesLine before.taken after.taken before.sink_faults after.sink_faults text
   -- No count of faults falls.
   pub source_count : before.source_faults ≤ after.source_faults
   pub sink_count : before.sink_faults ≤ after.sink_faults

@@ -1,5 +1,6 @@
 -- What `compact` copies to the spare device, and why it copies nothing.
-use Rattle.std.specs.Prelude.{◌≡◌, ◌⊎◌, ℕ, ◌+◌, ◌-◌, ◌<◌, true, false, IsTrue, nat_lt, List, length, map, take, drop, Option, Some, None, Result, Ok, Err, if◌then◌else◌, ⊤}
+use Rattle.std.specs.Prelude.{◌≡◌, ◌⊎◌, ℕ, ◌+◌, ◌-◌, ◌<◌, true, false, IsTrue, nat_lt, List, length, map, take, drop, Option}
+use Rattle.std.specs.Prelude.{Some, None, Result, Ok, Err, if◌then◌else◌, ⊤}
 use Rattle.hy_base.specs.declared.record.EntryKind.{EntryKind}
 use Rattle.hy_base.specs.Spelling.{Text}
 use Rattle.hy_formats.specs.declared.damage.LogFault.{LogFault}
@@ -38,26 +39,32 @@ header_past header point = record { shape = header.shape; from = point.base }
 abbrev pub entries_past_base : Header → List EntryKind → Checkpoint → List EntryKind
 entries_past_base header entries point = drop (point.base - header.from) entries
 
--- The spare device was unborn. It, and whatever a crash leaves of it, holds exactly the log past the point's base. A restart on it with the point begins there, with these entries; and each whole log of the one that was copied is one of the copy.
+-- The spare device was unborn. It, and whatever a crash leaves of it, holds exactly the log past the point's base. A restart on
+-- it with the point begins there, with these entries; and each whole log of the one that was copied is one of the copy.
 pub record IsCopied (log points spare : Over) (text : Text) : Type 0 where
   pub plan : IsPlanned log points
   pub unborn : IsTrue spare.tells → is_unborn spare.before.seen ≡ true
   pub text_is : text ≡ compact_text plan.point.base (length (entries_past_base plan.header plan.entries plan.point))
-  pub held : LeavesNow spare (HoldsEntries (header_past plan.header plan.point) (entries_past_base plan.header plan.entries plan.point))
+  pub held : LeavesNow spare
+      (HoldsEntries (header_past plan.header plan.point) (entries_past_base plan.header plan.entries plan.point))
   pub restarts : IsTrue points.tells → let rest = entries_past_base plan.header plan.entries plan.point in
-      restart_in (header_past plan.header plan.point) (map (spelling plan.header.shape.version) rest) true points.before.seen ≡ Ok (rest, Some plan.point)
+      restart_in (header_past plan.header plan.point) (map (spelling plan.header.shape.version) rest) true points.before.seen
+      ≡ Ok (rest, Some plan.point)
   pub whole : (whole : List EntryKind) → IsWholeOf plan.header.shape plan.header.from plan.entries (Some plan.point) whole
-      → IsWholeOf plan.header.shape plan.point.base (entries_past_base plan.header plan.entries plan.point) (Some plan.point) whole
+      → IsWholeOf plan.header.shape plan.point.base (entries_past_base plan.header plan.entries plan.point)
+      (Some plan.point) whole
 
 -- the first so many entries of the copy
 abbrev pub HoldsSome : Header → List EntryKind → List ℕ → Type 0
 HoldsSome header entries image = (n : ℕ) × HoldsEntries header (take n entries) image
 
--- A call is made on the spare device only once it is known what is to be copied. A device in use is only read. Of an unborn one a crash at any moment leaves an unborn device, one without records, or a beginning of the copy.
+-- A call is made on the spare device only once it is known what is to be copied. A device in use is only read. Of an unborn one
+-- a crash at any moment leaves an unborn device, one without records, or a beginning of the copy.
 pub record IsSpareCalled (log points spare : Over) : Type 0 where
   pub plan : IsPlanned log points
   pub in_use : IsTrue spare.tells → is_unborn spare.before.seen ≡ false → IsOnlyRead spare
-  pub unborn : is_unborn spare.before.seen ≡ true → LeavesEver spare (λ image. HoldsNothing image ⊎ HoldsSome (header_past plan.header plan.point) (entries_past_base plan.header plan.entries plan.point) image)
+  pub unborn : is_unborn spare.before.seen ≡ true → LeavesEver spare (λ image. HoldsNothing image
+      ⊎ HoldsSome (header_past plan.header plan.point) (entries_past_base plan.header plan.entries plan.point) image)
 
 abbrev pub LeavesSpare : Over → Over → Over → Type 0
 LeavesSpare log points spare = spare.uncalled ⊎ IsSpareCalled log points spare
@@ -68,14 +75,17 @@ LeavesSpare log points spare = spare.uncalled ⊎ IsSpareCalled log points spare
 abbrev pub past_point_refused : ℕ → Result (Option Checkpoint) RestartError → List ℕ → Option Status
 past_point_refused from (Err e) spare = Some (restart_fault e)
 past_point_refused from (Ok point) spare =
-    if nat_lt from (base_of point) then (if is_unborn spare then None else Some status.SpareInUse) else Some (status.NothingToCut from (base_of point))
+    if nat_lt from (base_of point) then (if is_unborn spare then None else Some status.SpareInUse)
+    else Some (status.NothingToCut from (base_of point))
 
 -- an unborn log has nothing before a base
 abbrev pub log_copy_refused : Option Header → List EntryKind → List ℕ → List ℕ → Option Status
 log_copy_refused None entries points spare = Some (status.NothingToCut 0 0)
-log_copy_refused (Some h) entries points spare = past_point_refused h.from (point_for h.shape (h.from + length entries) points) spare
+log_copy_refused (Some h) entries points spare =
+    past_point_refused h.from (point_for h.shape (h.from + length entries) points) spare
 
--- Why a log isn't copied, if it isn't: its first page or entry that is refused comes before the saved point, and that before the spare device.
+-- Why a log isn't copied, if it isn't: its first page or entry that is refused comes before the saved point, and that
+-- before the spare device.
 abbrev pub copy_refused : Result Recovered LogFault → List ℕ → List ℕ → Option Status
 copy_refused (Err fault) points spare = Some (status.Log fault.place fault.why)
 copy_refused (Ok r) points spare = log_copy_refused r.header r.entries points spare

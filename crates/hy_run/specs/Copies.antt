@@ -1,5 +1,6 @@
 -- What the parts of a copy hand to one another.
-use Rattle.std.specs.Prelude.{◌≡◌, ◌⊎◌, ℕ, ◌+◌, ◌<◌, ◌≤◌, false, true, Bool, IsTrue, List, length, map, Some, Result, IfOk, IfErr, Ok, ⊤}
+use Rattle.std.specs.Prelude.{◌≡◌, ◌⊎◌, ℕ, ◌+◌, ◌<◌, ◌≤◌, false, true, Bool, IsTrue, List, length, map, Some, Result, IfOk}
+use Rattle.std.specs.Prelude.{IfErr, Ok, ⊤}
 use Rattle.std.specs.List.{AllByRecursion}
 use Rattle.hy_base.specs.declared.layout.Shape.{Shape}
 use Rattle.hy_base.specs.declared.record.EntryKind.{EntryKind}
@@ -45,7 +46,9 @@ pub record IsFurther (tells : Bool) (shape : Shape) (from len : ℕ) (bytes : Li
 -- why there is none
 abbrev pub IsBaseFault : Bool → Shape → ℕ → ℕ → List ℕ → ℕ → ℕ → Status → Type 0
 IsBaseFault tells shape from len bytes faults faults_now status =
-    IsFault (λ line why. ⊥) (λ s. IsTrue tells → (spare : List ℕ) → past_point_refused from (point_for shape len bytes) spare ≡ Some s) ⊥ (λ device. (device ≡ which.Points) × Rose faults faults_now) status
+    IsFault (λ line why. ⊥)
+    (λ s. IsTrue tells → (spare : List ℕ) → past_point_refused from (point_for shape len bytes) spare ≡ Some s) ⊥
+    (λ device. (device ≡ which.Points) × Rose faults faults_now) status
 
 -- how far a call came that has none
 abbrev pub FitsBase : Status → Type 0
@@ -59,12 +62,14 @@ FitsBase _ = ⊥
 -- ---- what is to be copied
 
 -- the entries of the log, and the point
-pub record IsPlan (tells : Bool) (header : Header) (bodies : List (List ℕ)) (bytes : List ℕ) (entries : List EntryKind) (point : Checkpoint) : Type 0 where
+pub record IsPlan (tells : Bool) (header : Header) (bodies : List (List ℕ)) (bytes : List ℕ) (entries : List EntryKind)
+    (point : Checkpoint) : Type 0 where
   pub found : AreFoundIn tells header bodies entries
   pub point_is : IsFurther tells header.shape header.from (header.from + length entries) bytes point
 
 -- the entries past the point's base, as they were read once more
-pub record IsRest (tells : Bool) (header : Header) (entries : List EntryKind) (point : Checkpoint) (rest : List EntryKind) : Type 0 where
+pub record IsRest (tells : Bool) (header : Header) (entries : List EntryKind) (point : Checkpoint)
+    (rest : List EntryKind) : Type 0 where
   pub same : IsTrue tells → rest ≡ entries_past_base header entries point
   pub count : length rest ≡ length (entries_past_base header entries point)
   pub sound : AllByRecursion (IsSoundEntry header.shape.version) rest
@@ -73,8 +78,11 @@ pub record IsRest (tells : Bool) (header : Header) (entries : List EntryKind) (p
 -- why there is none: of the counts of faults of the log's device and of the points device
 abbrev pub IsPlanFault : Bool → Header → List (List ℕ) → List ℕ → ℕ → ℕ → ℕ → ℕ → Status → Type 0
 IsPlanFault tells header bodies bytes log_faults log_faults_now point_faults point_faults_now status =
-    IsFault (λ line why. ⊥) (λ s. IsTrue tells → (spare : List ℕ) → copy_refused (decoded_log (Some header) bodies) bytes spare ≡ Some s) ⊥
-    (λ device. ((device ≡ which.Log) × Rose log_faults log_faults_now) ⊎ ((device ≡ which.Points) × Rose point_faults point_faults_now)) status
+    IsFault (λ line why. ⊥)
+    (λ s. IsTrue tells → (spare : List ℕ) → copy_refused (decoded_log (Some header) bodies) bytes spare ≡ Some s) ⊥
+    (λ device. ((device ≡ which.Log) × Rose log_faults log_faults_now)
+    ⊎ ((device ≡ which.Points) × Rose point_faults point_faults_now))
+    status
 
 -- ---- the spare device
 
@@ -101,13 +109,15 @@ unopened_fault opening.Unborn = status.NothingToCut 0 0
 -- ---- both
 
 -- a log with this header and these bodies is copied, as it is planned
-pub record IsMade {V : Type 0} (items : V → Text) (tells : Bool) (header : Header) (bodies : List (List ℕ)) (points spare : Over) (v : V) : Type 0 where
+pub record IsMade {V : Type 0} (items : V → Text) (tells : Bool) (header : Header) (bodies : List (List ℕ))
+    (points spare : Over) (v : V) : Type 0 where
   pub entries : List EntryKind
   pub point : Checkpoint
   pub plan : IsPlan tells header bodies points.before.seen entries point
   pub was_unborn : IsTrue spare.tells → is_unborn spare.before.seen ≡ true
   pub text_is : items v ≡ compact_text point.base (length (entries_past_base header entries point))
-  pub held : LeavesNow spare (Holds (header_past header point) (map (spelling header.shape.version) (entries_past_base header entries point)))
+  pub held : LeavesNow spare
+      (Holds (header_past header point) (map (spelling header.shape.version) (entries_past_base header entries point)))
 
 -- calls were made on the spare device
 pub record IsTried (tells : Bool) (header : Header) (bodies : List (List ℕ)) (points spare : Over) : Type 0 where
@@ -115,7 +125,8 @@ pub record IsTried (tells : Bool) (header : Header) (bodies : List (List ℕ)) (
   pub point : Checkpoint
   pub plan : IsPlan tells header bodies points.before.seen entries point
   pub in_use : IsTrue spare.tells → is_unborn spare.before.seen ≡ false → IsOnlyRead spare
-  pub unborn : is_unborn spare.before.seen ≡ true → LeavesEver spare (IsPartlyCopied (header_past header point) (entries_past_base header entries point))
+  pub unborn : is_unborn spare.before.seen ≡ true
+      → LeavesEver spare (IsPartlyCopied (header_past header point) (entries_past_base header entries point))
 
 -- a device failed
 abbrev pub OneFails : ℕ → ℕ → Over → Over → Which → Type 0
@@ -124,9 +135,12 @@ OneFails log_faults log_faults_now points spare which.Points = HasFailed points
 OneFails log_faults log_faults_now points spare which.Spare = HasFailed spare
 
 -- What a copy of a log with this header and these bodies comes to.
-pub record IsCopyOf {V : Type 0} (items : V → Text) (tells : Bool) (header : Header) (bodies : List (List ℕ)) (log_faults log_faults_now : ℕ) (points spare : Over) (text : Result V Status) : Type 0 where
+pub record IsCopyOf {V : Type 0} (items : V → Text) (tells : Bool) (header : Header) (bodies : List (List ℕ))
+    (log_faults log_faults_now : ℕ) (points spare : Over) (text : Result V Status) : Type 0 where
   pub made : IfOk text (IsMade items tells header bodies points spare)
-  pub cause : IfErr text (IsFault (λ line why. ⊥) (λ s. IsTrue tells → copy_refused (decoded_log (Some header) bodies) points.before.seen spare.before.seen ≡ Some s) ⊥ (OneFails log_faults log_faults_now points spare))
+  pub cause : IfErr text (IsFault (λ line why. ⊥)
+      (λ s. IsTrue tells → copy_refused (decoded_log (Some header) bodies) points.before.seen spare.before.seen ≡ Some s) ⊥
+      (OneFails log_faults log_faults_now points spare))
   pub comes_first : IfErr text (λ s. Fits only_point true s points (opened header bodies))
   pub spare_left : spare.uncalled ⊎ IsTried tells header bodies points spare
   pub comes_before_spare : IfErr text (λ s. LeavesSpareBy s spare)

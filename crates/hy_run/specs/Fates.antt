@@ -1,5 +1,6 @@
 -- What becomes of the log and of the saved point in a call, told once for every command and every answer.
-use Rattle.std.specs.Prelude.{◌≡◌, ◌⊎◌, ℕ, ◌+◌, ◌≤◌, Bool, false, true, ◌||◌, IsTrue, List, [], ◌∷◌, ◌++◌, length, map, take, Option, Some, None, Ok, ⊤}
+use Rattle.std.specs.Prelude.{◌≡◌, ◌⊎◌, ℕ, ◌+◌, ◌≤◌, Bool, false, true, ◌||◌, IsTrue, List, [], ◌∷◌, ◌++◌, length, map, take}
+use Rattle.std.specs.Prelude.{Option, Some, None, Ok, ⊤}
 use Rattle.std.specs.List.{AllByRecursion, list_any}
 use mathlib.Core.List.{IsPrefix}
 use Rattle.hy_base.specs.declared.record.EntryKind.{EntryKind}
@@ -29,15 +30,19 @@ use Rattle.hy_run.specs.declared.status.Which.TheVariants as which
 
 -- a device with these bytes has a log with this header and these entries past its cut; or is unborn, and the log isn't cut
 abbrev pub HasFound : List ℕ → Header → List EntryKind → Type 0
-HasFound seen header found = (recovered seen ≡ Ok (record { header = Some header; entries = found })) ⊎ ((recovered seen ≡ Ok (record { header = None; entries = [] })) × (found ≡ []) × (header.from ≡ 0))
+HasFound seen header found =
+    (recovered seen ≡ Ok (record { header = Some header; entries = found }))
+    ⊎ ((recovered seen ≡ Ok (record { header = None; entries = [] })) × (found ≡ []) × (header.from ≡ 0))
 
--- a device with these bytes has a log with this header, whose bodies are the spellings of these entries, and it is recovered as these
+-- a device with these bytes has a log with this header, whose bodies are the spellings of these entries, and it
+-- is recovered as these
 pub record HoldsEntries (header : Header) (entries : List EntryKind) (image : List ℕ) : Type 0 where
   pub spelled : Holds header (map (spelling header.shape.version) entries) image
   pub recovers : recovered image ≡ Ok (record { header = Some header; entries = entries })
 
--- The clients of a script ran on a log: the position up to which it was cut, the entries that were found past it, the events that came of it, the entries past the cut and the state to which they lead, and the batch at which the device failed, if it did.
--- In the state fillers stand for the entries up to the cut.
+-- The clients of a script ran on a log: the position up to which it was cut, the entries that were found past it, the events
+-- that came of it, the entries past the cut and the state to which they lead, and the batch at which the device failed, if it
+-- did. In the state fillers stand for the entries up to the cut.
 pub record Growth : Type 0 where
   pub script : Workload
   pub from : ℕ
@@ -51,11 +56,13 @@ pub record Growth : Type 0 where
 abbrev pub header_of_growth : Growth → Header
 header_of_growth g = record { shape = g.script.shape; from = g.from }
 
--- So is it on each whole log that the log found may be the rest of, and for which the point stands from which the run began: said of that log, and of the entries in it up to the cut.
+-- So is it on each whole log that the log found may be the rest of, and for which the point stands from which the run began:
+-- said of that log, and of the entries in it up to the cut.
 abbrev pub OnEach : Growth → Option Checkpoint → (List EntryKind → List EntryKind → Type 0) → Type 0
 OnEach g start P = (log : List EntryKind) (whole : IsWholeOf g.script.shape g.from g.found start log) → P log whole.before
 
--- What became of the log: no call was made on its device, it wasn't opened, it was opened with these bodies and only read, or clients ran on it.
+-- What became of the log: no call was made on its device, it wasn't opened, it was opened with these bodies and only read,
+-- or clients ran on it.
 pub data Fate : Type 0 where
   uncalled : Fate
   unopened : Fate
@@ -69,15 +76,22 @@ acked_by unopened = 0
 acked_by (opened header bodies) = header.from + length bodies
 acked_by (grown g) = g.from + length g.entries
 
--- Clients asked to append the entries of the batch, each by itself, or a pad to complete the last group with them, in a state on the way. On each whole log, each is the entry of its client's begun program.
+-- Clients asked to append the entries of the batch, each by itself, or a pad to complete the last group with them, in a state
+-- on the way. On each whole log, each is the entry of its client's begun program.
 pub record WereAsked (g : Growth) (start : Option Checkpoint) : Type 0 where
   pub front : List Event
   pub begins : IsPrefix front g.events
   pub state : State
   pub moves : LeadPast g.script g.from g.found front state
-  pub may : AllByRecursion (λ entry. (client : ℕ) × MayAdd (setting_of g.script) state (Append client) (entry ∷ []) × OnEach g start (λ log before. own_entry g.script (swapped before state) client ≡ entry ∷ [])) g.batch ⊎ ((server : ℕ) × MayAdd (setting_of g.script) state (Pad server) g.batch)
+  pub may : AllByRecursion (λ entry. (client : ℕ) × MayAdd (setting_of g.script) state (Append client) (entry ∷ [])
+      × OnEach g start (λ log before. own_entry g.script (swapped before state) client ≡ entry ∷ []))
+      g.batch
+      ⊎ ((server : ℕ) × MayAdd (setting_of g.script) state (Pad server) g.batch)
 
--- Moves of the script's clients that are no stops lead from the log that was found to one that begins with it. On each whole log they are a run of the script as far as it goes: each entry is what its client's program leaves on its snapshot, and the tables, which were sound, stay so. The log and the batch are lawful together. There is a batch only where the device failed, and it was asked on the way.
+-- Moves of the script's clients that are no stops lead from the log that was found to one that begins with it. On each whole
+-- log they are a run of the script as far as it goes: each entry is what its client's program leaves on its snapshot, and the
+-- tables, which were sound, stay so. The log and the batch are lawful together. There is a batch only where the device failed,
+-- and it was asked on the way.
 pub record IsGrowth (log : Over) (g : Growth) (start : Option Checkpoint) : Type 0 where
   pub was_found : IsTrue log.tells → HasFound log.before.seen (header_of_growth g) g.found
   pub begins : IsPrefix g.found g.entries
@@ -106,7 +120,9 @@ HoldsAll g image = HoldsEntries (header_of_growth g) (g.entries ++ g.batch) imag
 -- What a crash leaves of the log, at any moment of the call and now.
 abbrev pub LeavesLog : Over → Fate → Option Checkpoint → Type 0
 LeavesLog log uncalled start = log.uncalled
-LeavesLog log unopened start = LeavesEver log (IsKept log.before.seen) × (IsTrue log.tells → (HasFailed log → ⊥) → log.now.seen ≡ log.before.seen)
+LeavesLog log unopened start =
+    LeavesEver log (IsKept log.before.seen)
+    × (IsTrue log.tells → (HasFailed log → ⊥) → log.now.seen ≡ log.before.seen)
 LeavesLog log (opened header bodies) start =
     (IsTrue log.tells → outcome (Some header.shape) log.before.seen ≡ Ok (record { header = Some header; bodies = bodies }))
     × LeavesEver log (IsKept log.before.seen) × LeavesNow log (Holds header bodies)
@@ -117,7 +133,9 @@ LeavesLog log (grown g) start =
 
 -- ---- the saved point
 
--- The run has finished and its device has not failed, and the point of its whole log is saved, or was about to be. If the device was fit for that log, a crash at any moment leaves it fit, with this point, the one that stood there, or none. That is said of each whole log at its end.
+-- The run has finished and its device has not failed, and the point of its whole log is saved, or was about to be. If the
+-- device was fit for that log, a crash at any moment leaves it fit, with this point, the one that stood there, or none. That is
+-- said of each whole log at its end.
 pub record IsSaving (g : Growth) (start : Option Checkpoint) (points : Over) : Type 0 where
   pub finished : is_finished g.script g.end ≡ true
   pub no_batch : g.batch ≡ []
@@ -126,7 +144,8 @@ pub record IsSaving (g : Growth) (start : Option Checkpoint) (points : Over) : T
   pub crash : OnEach g start (λ log before. IsFit g.script.shape (before ++ g.entries) points.before.seen
       → LeavesEver points (IsLeftBySave g.script.shape (before ++ g.entries) point points.before.seen))
 
--- How its device is left: no call is made on it before the log is open, and before a run has finished it is only read, where a point was asked for.
+-- How its device is left: no call is made on it before the log is open, and before a run has finished it is only read, where a
+-- point was asked for.
 abbrev pub LeavesPoint : RunOptions → Over → Fate → Option Checkpoint → Type 0
 LeavesPoint options points uncalled start = points.uncalled
 LeavesPoint options points unopened start = points.uncalled
@@ -152,7 +171,8 @@ abbrev pub IsWhileRead : Bool → Over → Type 0
 IsWhileRead true points = IsOnlyRead points
 IsWhileRead false points = points.uncalled
 
--- The device of the log failed: while the log was opened, while its entries were read, or while clients ran, before a point was saved.
+-- The device of the log failed: while the log was opened, while its entries were read, or while clients ran,
+-- before a point was saved.
 abbrev pub LogFailsAt : Bool → Over → Fate → Type 0
 LogFailsAt copies points uncalled = ⊥
 LogFailsAt copies points unopened = ⊤
@@ -165,7 +185,9 @@ PointFailsAt options (opened header bodies) = options.from_point ≡ true
 PointFailsAt options (grown g) = (options.save ≡ true) × (is_finished g.script g.end ≡ true) × (g.batch ≡ [])
 PointFailsAt options _ = ⊥
 
--- An answer without a text tells how far the call came, by its options and whether it makes a copy: the words, the source and the script or the stream come before the log, its pages and its shape before its entries, these before the point, which is looked at where it was asked for, the point before the tables, and these before the run. Memory may run out at any place.
+-- An answer without a text tells how far the call came, by its options and whether it makes a copy: the words, the source and
+-- the script or the stream come before the log, its pages and its shape before its entries, these before the point, which is
+-- looked at where it was asked for, the point before the tables, and these before the run. Memory may run out at any place.
 abbrev pub Fits : RunOptions → Bool → Status → Over → Fate → Type 0
 Fits options copies status.Usage points fate = fate ≡ uncalled
 Fits options copies (status.Script line why) points fate = fate ≡ uncalled

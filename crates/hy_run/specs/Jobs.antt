@@ -27,7 +27,9 @@ use Rattle.hy_run.specs.declared.inspect.Report.TheVariants.{Dump, Verdicts, Str
 use Rattle.hy_run.specs.declared.status.RunOptions.{RunOptions}
 use Rattle.hy_run.specs.declared.status.Status.{Status}
 
--- What a command does: it runs the clients of a script over the log, a script by its schedule, or a script that is generated; it tells something of the log; it copies the log past the saved point's base; or it takes the stream of a log from its source.
+-- What a command does: it runs the clients of a script over the log, a script by its schedule, or a script that is
+-- generated; it tells something of the log; it copies the log past the saved point's base; or it takes the stream of a
+-- log from its source.
 pub data Job : Type 0 where
   runs : RunOptions → Job
   simulates : Job
@@ -46,7 +48,8 @@ job_of Compact = compacts
 job_of Ship = tells_of_log Stream
 job_of (Follow threads) = follows
 
--- What a job means, by the bytes that its source has left, if it tells them, and by the devices of the log, the saved point and the copy over the call.
+-- What a job means, by the bytes that its source has left, if it tells them, and by the devices of the log, the saved point and
+-- the copy over the call.
 pub record JobMeaning : Type 1 where
   -- whether it reads its source, whether it makes a copy, and what it does with the saved point
   pub reads : Bool
@@ -105,7 +108,10 @@ meaning (runs options) = record {
   stream_refused = λ told bad. ⊥;
   refuses_stream = λ bytes bad. ⊥;
   log_refused = λ told log points spare answer. IsLogRefused options told log points answer;
-  refuses_log = λ told log points spare answer. (bytes : Text) × (input : Input) × (told ≡ Some bytes) × (read_input bytes false ≡ Ok input) × RefusesLog options input.script log points answer;
+  refuses_log = λ told log points spare answer. (bytes : Text) × (input : Input)
+      × (told ≡ Some bytes)
+      × (read_input bytes false ≡ Ok input)
+      × RefusesLog options input.script log points answer;
   leaves_spare = λ log points spare. spare.uncalled;
   may_leave = λ told log fate. IsForScript told fate;
 }
@@ -143,8 +149,10 @@ meaning (tells_of_log report) = record {
   reads = false;
   copies = false;
   options = no_point;
-  text = λ told log points spare fate start text. IsReport report log.tells (recovered log.before.seen) text × IsOpenedIfBorn log fate;
-  can = λ told log points spare. IsTrue log.tells × ((r : Recovered) × (recovered log.before.seen ≡ Ok r) × (report_refused report r ≡ None));
+  text = λ told log points spare fate start text. IsReport report log.tells (recovered log.before.seen) text
+      × IsOpenedIfBorn log fate;
+  can = λ told log points spare. IsTrue log.tells
+      × ((r : Recovered) × (recovered log.before.seen ≡ Ok r) × (report_refused report r ≡ None));
   script_refused = λ told n why. ⊥;
   refuses_script = λ bytes n why. ⊥;
   stream_refused = λ told bad. ⊥;
@@ -174,7 +182,9 @@ meaning follows = record {
   copies = false;
   options = no_point;
   text = λ told log points spare fate start text. IsFollowed told text;
-  can = λ told log points spare. (bytes : Text) × (told ≡ Some bytes) × ((whole : Option Shape × List EntryKind) × (read_stream bytes ≡ Ok whole));
+  can = λ told log points spare. (bytes : Text)
+      × (told ≡ Some bytes)
+      × ((whole : Option Shape × List EntryKind) × (read_stream bytes ≡ Ok whole));
   script_refused = λ told n why. ⊥;
   refuses_script = λ bytes n why. ⊥;
   stream_refused = IsStreamRefused;

@@ -12,7 +12,8 @@ use Rattle.hy_run.specs.Output.{IsWholeRun}
 pub record IsLoadRun (seed size : ℕ) (events : List Event) (summary : Text) : Type 0 where
   pub end : State
   pub whole : IsWholeRun (script_of seed size) (schedule_of seed size) events end
-  pub summary_is : summary ≡ summary_at seed size (script_of seed size) (ended_in (script_of seed size) (opening_of (script_of seed size) []) events) end
+  pub summary_is : summary ≡ summary_at seed size (script_of seed size)
+      (ended_in (script_of seed size) (opening_of (script_of seed size) []) events) end
 
 -- the summary of a load, by some events that are its whole run
 abbrev pub IsLoadText : ℕ → ℕ → Text → Type 0

@@ -24,7 +24,8 @@ use Rattle.hy_run.specs.declared.status.Which.TheVariants as which
 
 -- Why there is no text: the log is refused at its first place, or was cut; the device failed, or memory ran out.
 abbrev pub IsLogFault : Report → Bool → Result Recovered LogFault → ℕ → ℕ → Status → Type 0
-IsLogFault report tells expected faults faults_now status = IsFault (λ line why. ⊥) (IsUntold report tells expected) ⊥ (λ device. (device ≡ which.Log) × Rose faults faults_now) status
+IsLogFault report tells expected faults faults_now status =
+    IsFault (λ line why. ⊥) (IsUntold report tells expected) ⊥ (λ device. (device ≡ which.Log) × Rose faults faults_now) status
 
 abbrev pub entries_fault : EntriesError → Status
 entries_fault entries_error.Memory = status.Memory
@@ -40,7 +41,8 @@ open_fault (opening.Config field log asked) = None
 open_fault opening.Unborn = None
 
 -- An opened log that is only looked at.
-pub record IsOnlySeen {D : Type 0} (content : D → Content) (moment : D → ℕ) (left_since : D → ℕ → List ℕ → Type 0) (faults_of : D → ℕ) (old new : LogView D) : Type 0 where
+pub record IsOnlySeen {D : Type 0} (content : D → Content) (moment : D → ℕ) (left_since : D → ℕ → List ℕ → Type 0)
+    (faults_of : D → ℕ) (old new : LogView D) : Type 0 where
   pub same : content new.disk ≡ content old.disk
   pub quiet : LeavesOnly moment left_since old.disk new.disk (Image (content old.disk))
   pub later : faults_of old.disk ≤ faults_of new.disk
@@ -59,7 +61,8 @@ FitsLook status.Memory fate = ⊤
 FitsLook _ fate = ⊥
 
 -- what a look comes to
-pub record IsInspection {V : Type 0} (items : V → Text) (report : Report) (log : Over) (text : Result V Status) (acked : ℕ) : Type 0 where
+pub record IsInspection {V : Type 0} (items : V → Text) (report : Report) (log : Over) (text : Result V Status)
+    (acked : ℕ) : Type 0 where
   pub fate : Fate
   pub is : IfOk text (λ v. IsReport report log.tells (recovered log.before.seen) (items v) × IsOpenedIfBorn log fate)
   pub cause : IfErr text (IsLogFault report log.tells (recovered log.before.seen) log.faults log.faults_now)

@@ -3,7 +3,8 @@ use Rattle.std.specs.Prelude.{◌≡◌, ℕ, Bool, IsTrue, List}
 use Rattle.hy_base.specs.Faults.{Rose}
 use Rattle.hy_disk.specs.Content.{Content, Image, settled}
 
--- Whether it tells its bytes; what it held before the call, and what it holds now; what a crash at some moment of the call might have left; its count of faults before and now; and that no call was made on it.
+-- Whether it tells its bytes; what it held before the call, and what it holds now; what a crash at some moment of the call
+-- might have left; its count of faults before and now; and that no call was made on it.
 pub record Over : Type 1 where
   pub tells : Bool
   pub before : Content

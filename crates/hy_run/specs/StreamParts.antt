@@ -19,8 +19,11 @@ refusal_or_memory (feeding.BadFrame bad) = refusal_of bad
 
 -- why a source was not read whole as a stream: it is too long, it failed, or memory ran out
 abbrev pub IsUnread : Option Text → ℕ → ℕ → Status → Type 0
-IsUnread told faults faults_now status = IsFaultOf (λ line why. ⊥) (λ bad. (bad ≡ too_long) × IfSome told (λ left. longest_source < length left)) (λ s. ⊥) (Rose faults faults_now) (λ one. ⊥) status
+IsUnread told faults faults_now status =
+    IsFaultOf (λ line why. ⊥) (λ bad. (bad ≡ too_long) × IfSome told (λ left. longest_source < length left)) (λ s. ⊥)
+    (Rose faults faults_now) (λ one. ⊥) status
 
 -- and why nothing is told of it
 abbrev pub IsStreamFault : Option Text → ℕ → ℕ → Status → Type 0
-IsStreamFault told faults faults_now status = IsFaultOf (λ line why. ⊥) (IsStreamRefused told) (λ s. ⊥) (Rose faults faults_now) (λ one. ⊥) status
+IsStreamFault told faults faults_now status =
+    IsFaultOf (λ line why. ⊥) (IsStreamRefused told) (λ s. ⊥) (Rose faults faults_now) (λ one. ⊥) status

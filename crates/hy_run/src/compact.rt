@@ -1,5 +1,6 @@
 //! `compact`: the log past the saved point's base, copied to the spare device.
-ghost use Rattle.std.specs.Prelude.{◌≡◌, ◌≢◌, ◌≤◌, ℕ, List, length, map, true, false, IsTrue, IfOk, IfErr, OnOk, Option, Some, None};
+ghost use Rattle.std.specs.Prelude.{◌≡◌, ◌≢◌, ◌≤◌, ℕ, List, length, map, true, false, IsTrue, IfOk, IfErr, OnOk, Option, Some};
+ghost use Rattle.std.specs.Prelude.{None};
 ghost use Rattle.std.specs.List.{AllByRecursion};
 ghost use Rattle.hy_base.specs.declared.record.EntryKind.{EntryKind};
 ghost use Rattle.hy_base.specs.Entry.{IsSoundEntry};
@@ -16,7 +17,8 @@ ghost use Rattle.hy_formats.specs.declared.refusal.OpenError.TheVariants as open
 ghost use Rattle.hy_compact.specs.Compaction.{IsPartlyCopied};
 ghost use Rattle.hy_log.specs.LogOpening.{MayRefuse};
 ghost use Rattle.hy_log.specs.View.{header_of};
-ghost use Rattle.hy_run.specs.Copies.{FitsBase, IsBaseFault, IsCopyFault, IsCopyOf, IsFurther, IsPlan, IsPlanFault, IsRest, copy_fault, unopened_fault};
+ghost use Rattle.hy_run.specs.Copies.{FitsBase, IsBaseFault, IsCopyFault, IsCopyOf, IsFurther, IsPlan, IsPlanFault, IsRest};
+ghost use Rattle.hy_run.specs.Copies.{copy_fault, unopened_fault};
 ghost use Rattle.hy_run.specs.Handovers.{IsDone};
 ghost use Rattle.hy_run.specs.Jobs.{compacts, meaning, only_point};
 ghost use Rattle.hy_run.specs.Fates.{Fits, opened};
@@ -71,7 +73,8 @@ fn further_point<D: Disk>(
 ) -> Result<Point, Status>
     requires { IsGoodShape shape }
     ensures point { IfOk result (IsFurther D.tells shape from len (D.content points.old).seen) }
-    ensures refused { IfErr result (IsBaseFault D.tells shape from len (D.content points.old).seen (D.faults_of points.old) (D.faults_of points.new)) }
+    ensures refused { IfErr result
+        (IsBaseFault D.tells shape from len (D.content points.old).seen (D.faults_of points.old) (D.faults_of points.new)) }
     ensures comes_first { IfErr result FitsBase }
     ensures look { OnlyReads D.content D.moment D.left_since D.faults_of points.old points.new }
 {
@@ -89,9 +92,14 @@ fn further_point<D: Disk>(
 
 // What is to be copied of a log. All its entries are judged, and only those to be copied are kept.
 fn plan_copy<D: Disk>(alloc: Global, log: &mut PageLog<D>, points: &mut D) -> Result<Plan, Status>
-    ensures plan { IfOk result (λ plan. (entries : List EntryKind) × IsPlan D.tells (header_of log.old) log.old.bodies (D.content points.old).seen entries plan.point × IsRest D.tells (header_of log.old) entries plan.point plan.rest.items) }
-    ensures refused { IfErr result (IsPlanFault D.tells (header_of log.old) log.old.bodies (D.content points.old).seen (D.faults_of log.old.disk) (D.faults_of log.new.disk) (D.faults_of points.old) (D.faults_of points.new)) }
-    ensures comes_first { IfErr result (λ status. Fits only_point true status (over D.tells D.content D.moment D.left_since D.faults_of points.old points.new) (opened (header_of log.old) log.old.bodies)) }
+    ensures plan { IfOk result (λ plan. (entries : List EntryKind)
+        × IsPlan D.tells (header_of log.old) log.old.bodies (D.content points.old).seen entries plan.point
+        × IsRest D.tells (header_of log.old) entries plan.point plan.rest.items) }
+    ensures refused { IfErr result (IsPlanFault D.tells (header_of log.old) log.old.bodies (D.content points.old).seen
+        (D.faults_of log.old.disk) (D.faults_of log.new.disk) (D.faults_of points.old) (D.faults_of points.new)) }
+    ensures comes_first { IfErr result (λ status.
+        Fits only_point true status (over D.tells D.content D.moment D.left_since D.faults_of points.old points.new)
+        (opened (header_of log.old) log.old.bodies)) }
     ensures seen { IsOnlySeen D.content D.moment D.left_since D.faults_of log.old log.new }
     ensures look { OnlyReads D.content D.moment D.left_since D.faults_of points.old points.new }
 {
@@ -109,7 +117,8 @@ fn plan_copy<D: Disk>(alloc: Global, log: &mut PageLog<D>, points: &mut D) -> Re
 // That the spare device is unborn.
 fn find_unborn<D: Disk>(spare: &mut D) -> Result<(), Status>
     ensures unborn { IsTrue D.tells → OnOk result (is_unborn (D.content spare.old).seen ≡ true) }
-    ensures refused { IfErr result (IsCopyFault D.tells (D.content spare.old).seen (D.faults_of spare.old) (D.faults_of spare.new)) }
+    ensures refused { IfErr result
+        (IsCopyFault D.tells (D.content spare.old).seen (D.faults_of spare.old) (D.faults_of spare.new)) }
     ensures look { OnlyReads D.content D.moment D.left_since D.faults_of spare.old spare.new }
 {
     match is_unborn(spare) {
@@ -154,12 +163,17 @@ fn copy_entries<D: Disk>(
     requires lawful { AreLawfulPast shape base entries.now }
     requires sound { AllByRecursion (IsSoundEntry shape.version) entries.now }
     ensures text { IfOk result.text (λ text. text.items ≡ compact_text base (length entries.now)) }
-    ensures held { IsTrue D.tells → IfOk result.text (λ _. (image : List ℕ) → Image (D.content result.spare) image → Holds (record { shape = shape; from = base }) (map (spelling shape.version) entries.now) image) }
+    ensures held { IsTrue D.tells → IfOk result.text (λ _. (image : List ℕ) → Image (D.content result.spare) image
+        → Holds (record { shape = shape; from = base }) (map (spelling shape.version) entries.now) image) }
     ensures unborn { IsTrue D.tells → IfOk result.text (λ _. is_unborn (D.content spare).seen ≡ true) }
-    ensures refused { IfErr result.text (IsCopyFault D.tells (D.content spare).seen (D.faults_of spare) (D.faults_of result.spare)) }
-    ensures in_use { IsTrue D.tells → is_unborn (D.content spare).seen ≡ false → OnlyReads D.content D.moment D.left_since D.faults_of spare result.spare }
-    ensures any_moment { IsTrue D.tells → D.content spare ≡ settled (D.content spare).seen → is_unborn (D.content spare).seen ≡ true
-        → LeavesOnly D.moment D.left_since spare result.spare (IsPartlyCopied (record { shape = shape; from = base }) entries.now) }
+    ensures refused { IfErr result.text
+        (IsCopyFault D.tells (D.content spare).seen (D.faults_of spare) (D.faults_of result.spare)) }
+    ensures in_use { IsTrue D.tells → is_unborn (D.content spare).seen ≡ false
+        → OnlyReads D.content D.moment D.left_since D.faults_of spare result.spare }
+    ensures any_moment { IsTrue D.tells → D.content spare ≡ settled (D.content spare).seen
+        → is_unborn (D.content spare).seen ≡ true
+        → LeavesOnly D.moment D.left_since spare result.spare
+        (IsPartlyCopied (record { shape = shape; from = base }) entries.now) }
     ensures later { D.faults_of spare ≤ D.faults_of result.spare }
 {
     if let Err(status) = find_unborn(&mut spare) {
@@ -182,7 +196,9 @@ fn copy_entries<D: Disk>(
 
 // The copy of a log, or why there is none.
 fn copy_of<D: Disk>(alloc: Global, log: &mut PageLog<D>, points: &mut D, spare: D) -> Copied<D>
-    ensures copied { IsCopyOf (λ bytes. bytes.items) D.tells (header_of log.old) log.old.bodies (D.faults_of log.old.disk) (D.faults_of log.new.disk) (over D.tells D.content D.moment D.left_since D.faults_of points.old points.new) (over D.tells D.content D.moment D.left_since D.faults_of spare result.spare) result.text }
+    ensures copied { IsCopyOf (λ bytes. bytes.items) D.tells (header_of log.old) log.old.bodies (D.faults_of log.old.disk)
+        (D.faults_of log.new.disk) (over D.tells D.content D.moment D.left_since D.faults_of points.old points.new)
+        (over D.tells D.content D.moment D.left_since D.faults_of spare result.spare) result.text }
     ensures seen { IsOnlySeen D.content D.moment D.left_since D.faults_of log.old log.new }
     ensures look { OnlyReads D.content D.moment D.left_since D.faults_of points.old points.new }
     ensures later { D.faults_of spare ≤ D.faults_of result.spare }
@@ -216,7 +232,11 @@ fn unopened(error: OpenError) -> Status
 /// Opens the log, copies it past the saved point's base to the spare device, and closes it. What the log's device and that of
 /// the point hold stays as it was.
 pub fn compact<D: Disk>(alloc: Global, log: D, points: &mut D, spare: D) -> Compacted<D>
-    ensures done { (told : Option Text) (faults : ℕ) → IsDone (λ bytes. bytes.items) (meaning compacts) told faults faults (over D.tells D.content D.moment D.left_since D.faults_of log result.log) (over D.tells D.content D.moment D.left_since D.faults_of points.old points.new) (over D.tells D.content D.moment D.left_since D.faults_of spare result.spare) result.text result.acked }
+    ensures done { (told : Option Text) (faults : ℕ)
+        → IsDone (λ bytes. bytes.items) (meaning compacts) told faults faults
+        (over D.tells D.content D.moment D.left_since D.faults_of log result.log)
+        (over D.tells D.content D.moment D.left_since D.faults_of points.old points.new)
+        (over D.tells D.content D.moment D.left_since D.faults_of spare result.spare) result.text result.acked }
     ensures later { D.faults_of log ≤ D.faults_of result.log }
     ensures points_later { D.faults_of points.old ≤ D.faults_of points.new }
     ensures spare_later { D.faults_of spare ≤ D.faults_of result.spare }

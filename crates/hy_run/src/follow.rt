@@ -71,7 +71,8 @@ fn read_stream<S: Source>(alloc: Global, source: &mut S) -> Result<Vec<u8>, Stat
 
 // What a follower tells of the entries that came.
 fn told_text(alloc: Global, follower: &Follower) -> Result<Vec<u8>, AllocError>
-    ensures { IfOk result (λ text. (bytes : List ℕ) → HasFollowed bytes follower.now → text.items ≡ verdicts_text (came bytes).shape (came bytes).entries) }
+    ensures { IfOk result (λ text. (bytes : List ℕ) → HasFollowed bytes follower.now
+        → text.items ≡ verdicts_text (came bytes).shape (came bytes).entries) }
 {
     a_follower_decides();
     let verdicts = follower.verdicts(alloc)?;
@@ -90,8 +91,10 @@ fn follow_bytes<R: Threads + Sync, G: Gate + Sync>(
     runtime: &Runtime<R, G>,
     bytes: &[u8],
 ) -> Result<Vec<u8>, Status>
-    ensures text { IfOk result (λ text. (end_fault (came bytes.now) ≡ None) × (text.items ≡ verdicts_text (came bytes.now).shape (came bytes.now).entries)) }
-    ensures refused { IfErr result (λ status. (status ≡ Status.Memory) ⊎ ((bad : BadFrame) × (end_fault (came bytes.now) ≡ Some bad) × (status ≡ refusal_of bad))) }
+    ensures text { IfOk result (λ text. (end_fault (came bytes.now) ≡ None)
+        × (text.items ≡ verdicts_text (came bytes.now).shape (came bytes.now).entries)) }
+    ensures refused { IfErr result (λ status. (status ≡ Status.Memory)
+        ⊎ ((bad : BadFrame) × (end_fault (came bytes.now) ≡ Some bad) × (status ≡ refusal_of bad))) }
 {
     let mut follower = Follower::new(runtime.alloc);
     follower.feed(runtime, bytes)?;

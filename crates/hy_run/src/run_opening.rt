@@ -65,9 +65,14 @@ pub fn open_run<R: Threads + Sync, D: Disk, G: Gate + Sync>(
 ) -> Result<Restarted, Status>
     requires shape { log.old.shape ≡ script.now.shape }
     ensures found { IfOk result (λ r. AreFoundIn D.tells (header_of log.old) log.old.bodies r.entries.items) }
-    ensures opened { IfOk result (λ r. IsOpened D.tells options script.now (header_of log.old) (D.content points.old) r.entries.items r.roller) }
-    ensures cause { IfErr result (IsRanFault options script.now (header_of log.old) log.old.bodies (over D.tells D.content D.moment D.left_since D.faults_of log.old.disk log.new.disk) (over D.tells D.content D.moment D.left_since D.faults_of points.old points.new)) }
-    ensures comes_first { IfErr result (λ s. Fits options false s (over D.tells D.content D.moment D.left_since D.faults_of points.old points.new) (opened (header_of log.old) log.old.bodies)) }
+    ensures opened { IfOk result (λ r.
+        IsOpened D.tells options script.now (header_of log.old) (D.content points.old) r.entries.items r.roller) }
+    ensures cause { IfErr result (IsRanFault options script.now (header_of log.old) log.old.bodies
+        (over D.tells D.content D.moment D.left_since D.faults_of log.old.disk log.new.disk)
+        (over D.tells D.content D.moment D.left_since D.faults_of points.old points.new)) }
+    ensures comes_first { IfErr result (λ s.
+        Fits options false s (over D.tells D.content D.moment D.left_since D.faults_of points.old points.new)
+        (opened (header_of log.old) log.old.bodies)) }
     ensures same { IsSameLog log.old log.new }
     ensures log_look { OnlyReads D.content D.moment D.left_since D.faults_of log.old.disk log.new.disk }
     ensures points_look { OnlyReads D.content D.moment D.left_since D.faults_of points.old points.new }

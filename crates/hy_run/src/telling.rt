@@ -23,7 +23,8 @@ impl Receiver for DumpText {
 
     ghost takes = { λ _ _. ⊤ };
 
-    ghost took = { λ start now from entries. (now.version ≡ start.version) × (now.text.items ≡ start.text.items ++ flat_map (entry_text start.version) (enumerate_from (from + 1) entries)) };
+    ghost took = { λ start now from entries. (now.version ≡ start.version)
+        × (now.text.items ≡ start.text.items ++ flat_map (entry_text start.version) (enumerate_from (from + 1) entries)) };
 
     ghost took_none = { λ dump from. (refl, sym (append-nil dump.text.items)) };
 
@@ -45,7 +46,8 @@ impl Receiver for StreamBytes {
 
     ghost takes = { λ stream version. stream.version ≡ version };
 
-    ghost took = { λ start now from entries. (now.version ≡ start.version) × (now.bytes.items ≡ start.bytes.items ++ flat_map (λ e. frame (spelling start.version e)) entries) };
+    ghost took = { λ start now from entries. (now.version ≡ start.version)
+        × (now.bytes.items ≡ start.bytes.items ++ flat_map (λ e. frame (spelling start.version e)) entries) };
 
     ghost took_none = { λ stream from. (refl, sym (append-nil stream.bytes.items)) };
 

@@ -1,5 +1,6 @@
 -- The lines of a script and of a schedule: which may stand where, and what each of them makes.
-use Rattle.std.specs.Prelude.{ℕ, ◌+◌, ◌%◌, Bool, true, not, ◌&&◌, ◌==◌, List, [], ◌∷◌, ◌++◌, length, nat_lt, nat_le, if◌then◌else◌, Option, Some, None, is_some, Result, is_ok}
+use Rattle.std.specs.Prelude.{ℕ, ◌+◌, ◌%◌, Bool, true, not, ◌&&◌, ◌==◌, List, [], ◌∷◌, ◌++◌, length, nat_lt, nat_le}
+use Rattle.std.specs.Prelude.{if◌then◌else◌, Option, Some, None, is_some, Result, is_ok}
 use Rattle.hy_base.specs.declared.layout.Shape.{Shape}
 use Rattle.hy_base.specs.declared.workload.Command.{Command}
 use Rattle.hy_base.specs.declared.workload.Command.TheVariants.{Get, Put, Del, Add, Scan, Row, Unrow, Cell, Find}
@@ -16,7 +17,8 @@ use Rattle.hy_base.specs.declared.record.Isolation.TheVariants.{Serializable, Sn
 use Rattle.hy_base.specs.Entry.{is_told}
 use Rattle.hy_base.specs.Value.{is_value}
 use Rattle.hy_base.specs.Spelling.{Text}
-use Rattle.hy_script.specs.Forms.{Meaning, LineForm, Alone, OneNumber, TwoNumbers, ThreeNumbers, NumberAndText, ThreeNumbersAndText, FixedWord, WordAndNumber, OtherFourth, FixedFourth, read_line}
+use Rattle.hy_script.specs.Forms.{Meaning, LineForm, Alone, OneNumber, TwoNumbers, ThreeNumbers, NumberAndText}
+use Rattle.hy_script.specs.Forms.{ThreeNumbersAndText, FixedWord, WordAndNumber, OtherFourth, FixedFourth, read_line}
 use Rattle.hy_script.specs.declared.why.Why.{Why}
 use Rattle.hy_script.specs.declared.why.Why.TheVariants.{Value, Range, Order, Count, Version}
 
@@ -108,25 +110,33 @@ shape_forms =
 -- so many servers, each of which keeps so many of its last boards
 abbrev pub served : Shape → ℕ → ℕ → Meaning Place
 served shape servers keeps =
-    makes_if ((is_within 1 8 servers && is_within 1 64 keeps, Range) ∷ []) (Listing (record { shape = shape; servers = servers; keeps = keeps; tables = 0; clients = [] }))
+    makes_if ((is_within 1 8 servers && is_within 1 64 keeps, Range) ∷ [])
+    (Listing (record { shape = shape; servers = servers; keeps = keeps; tables = 0; clients = [] }))
 
 -- servers S, with one board each; and servers S K
 abbrev pub servers_forms : Shape → List (LineForm Place)
-servers_forms shape = OneNumber "servers" (λ servers. served shape servers 1) ∷ TwoNumbers "servers" (λ servers keeps. served shape servers keeps) ∷ []
+servers_forms shape =
+    OneNumber "servers" (λ servers. served shape servers 1)
+    ∷ TwoNumbers "servers" (λ servers keeps. served shape servers keeps) ∷ []
 
 -- tables N
 abbrev pub tables_form : Workload → LineForm Place
-tables_form script = OneNumber "tables" (λ tables. makes_if ((is_within 1 255 tables, Range) ∷ []) (Listing (with_tables tables script)))
+tables_form script =
+    OneNumber "tables" (λ tables. makes_if ((is_within 1 255 tables, Range) ∷ []) (Listing (with_tables tables script)))
 
 -- client S
 abbrev pub client_form : Workload → LineForm Place
-client_form script = OneNumber "client" (λ server.
-    makes_if ((is_within 1 script.servers server, Range) ∷ (nat_lt (client_count script.clients server) 16, Count) ∷ []) (Listing (with_client server script)))
+client_form script =
+    OneNumber "client" (λ server.
+    makes_if ((is_within 1 script.servers server, Range) ∷ (nat_lt (client_count script.clients server) 16, Count) ∷ [])
+    (Listing (with_client server script)))
 
 -- a further program of the last client
 abbrev pub begins_program : Workload → Mode → Meaning Place
 begins_program script mode =
-    makes_if ((is_as_of script.shape mode.as_of, Range) ∷ (nat_lt (last_program_count script.clients) 10000, Count) ∷ (is_told script.shape.version mode.isolation, Version) ∷ [])
+    makes_if
+    ((is_as_of script.shape mode.as_of, Range) ∷ (nat_lt (last_program_count script.clients) 10000, Count)
+    ∷ (is_told script.shape.version mode.isolation, Version) ∷ [])
     (Programming script (begun mode))
 
 -- begin, begin snapshot, and begin at Q
@@ -147,7 +157,9 @@ schedule_form number script = Alone "schedule" (makes (Scheduled script number))
 
 -- a further command of a program, with tests of its own: all of them count as 64 at most
 abbrev pub gains : Workload → Program → Command → List (Bool × Why) → Meaning Place
-gains script program command tests = makes_if (tests ++ (nat_le (command_count program.commands + counts_as command) 64, Count) ∷ []) (Programming script (gains_command command program))
+gains script program command tests =
+    makes_if (tests ++ (nat_le (command_count program.commands + counts_as command) 64, Count) ∷ [])
+    (Programming script (gains_command command program))
 
 -- a row of one of so many tables, and its attribute; and a text that a row may have
 abbrev pub is_row : ℕ → ℕ → ℕ → Bool
@@ -166,30 +178,29 @@ is_search tables table attribute n = is_within 1 tables table && (nat_lt attribu
 -- get K, scan LO HI N
 abbrev pub reading_forms : Workload → Program → List (LineForm Place)
 reading_forms script program =
-    OneNumber "get" (λ key. gains script program (Get key) [])
-    ∷ ThreeNumbers "scan" (λ lo hi n. gains script program (Scan lo hi n) ((is_within 1 1000 n, Range) ∷ (nat_le lo hi, Order) ∷ []))
-    ∷ []
+    OneNumber "get" (λ key. gains script program (Get key) []) ∷ ThreeNumbers "scan"
+    (λ lo hi n. gains script program (Scan lo hi n) ((is_within 1 1000 n, Range) ∷ (nat_le lo hi, Order) ∷ [])) ∷ []
 
 -- put K V, del K, add K N, where K is no key of a table
 abbrev pub writing_forms : Workload → Program → List (LineForm Place)
 writing_forms script program =
-    NumberAndText "put" (λ key value. gains script program (Put key value) ((is_value value, Value) ∷ (not (is_table_key script.tables key), Range) ∷ []))
+    NumberAndText "put" (λ key value.
+    gains script program (Put key value) ((is_value value, Value) ∷ (not (is_table_key script.tables key), Range) ∷ []))
     ∷ OneNumber "del" (λ key. gains script program (Del key) ((not (is_table_key script.tables key), Range) ∷ []))
-    ∷ TwoNumbers "add" (λ key n. gains script program (Add key n) ((not (is_table_key script.tables key), Range) ∷ []))
-    ∷ []
+    ∷ TwoNumbers "add" (λ key n. gains script program (Add key n) ((not (is_table_key script.tables key), Range) ∷ [])) ∷ []
 
 -- where there are tables: cell T R, find T A N
 abbrev pub table_reading_forms : Workload → Program → List (LineForm Place)
 table_reading_forms script program =
     TwoNumbers "cell" (λ table row. gains script program (Cell table row) ((is_row script.tables table row, Range) ∷ []))
-    ∷ ThreeNumbers "find" (λ table attribute n. gains script program (Find table attribute n) ((is_search script.tables table attribute n, Range) ∷ []))
-    ∷ []
+    ∷ ThreeNumbers "find" (λ table attribute n.
+    gains script program (Find table attribute n) ((is_search script.tables table attribute n, Range) ∷ [])) ∷ []
 
 -- and row T R A V, unrow T R
 abbrev pub table_writing_forms : Workload → Program → List (LineForm Place)
 table_writing_forms script program =
-    ThreeNumbersAndText "row" (λ table row attribute text.
-    gains script program (Row table row attribute text) ((is_row_text text, Value) ∷ (is_row_with script.tables table row attribute, Range) ∷ []))
+    ThreeNumbersAndText "row" (λ table row attribute text. gains script program (Row table row attribute text)
+    ((is_row_text text, Value) ∷ (is_row_with script.tables table row attribute, Range) ∷ []))
     ∷ TwoNumbers "unrow" (λ table row. gains script program (Unrow table row) ((is_row script.tables table row, Range) ∷ []))
     ∷ []
 
@@ -200,8 +211,8 @@ command_forms has_tables reads script program =
     ++ (if has_tables then table_reading_forms script program else [])
     ++ (if reads then [] else writing_forms script program ++ (if has_tables then table_writing_forms script program else []))
 
--- The lines that may stand at a place, this being the line with the number that is given. Where there is a simulation a schedule may follow the clients.
--- A program that asks for a position only reads.
+-- The lines that may stand at a place, this being the line with the number that is given. Where there is a simulation a
+-- schedule may follow the clients. A program that asks for a position only reads.
 abbrev pub forms_at : Bool → Place → ℕ → List (LineForm Place)
 forms_at sim AtStart number = shape_forms
 forms_at sim (Shaped shape) number = servers_forms shape
@@ -210,14 +221,16 @@ forms_at sim (Listing script) number =
     ∷ (if may_tell_tables script then tables_form script ∷ [] else [])
     ++ (if nat_lt 0 (length script.clients) then begin_forms script else [])
     ++ (if sim then schedule_form number script ∷ [] else [])
-forms_at sim (Programming script program) number = command_forms (nat_lt 0 script.tables) (is_some program.as_of) script program ++ end_form script program ∷ []
+forms_at sim (Programming script program) number =
+    command_forms (nat_lt 0 script.tables) (is_some program.as_of) script program ++ end_form script program ∷ []
 forms_at sim (Scheduled script start) number = []
 
 abbrev pub event_of_client : Workload → Event → ℕ → Meaning Event
 event_of_client script event client = makes_if ((is_within 1 (length script.clients) client, Range) ∷ []) event
 
 abbrev pub publish : Workload → ℕ → ℕ → Meaning Event
-publish script server upto = makes_if ((is_within 1 script.servers server && nat_le upto 4294967295, Range) ∷ []) (Publish server upto)
+publish script server upto =
+    makes_if ((is_within 1 script.servers server && nat_le upto 4294967295, Range) ∷ []) (Publish server upto)
 
 abbrev pub stop : ℕ → ℕ → Meaning Event
 stop call pattern = makes_if ((is_within 1 4 call && nat_le pattern 2, Range) ∷ []) (Stop call pattern)

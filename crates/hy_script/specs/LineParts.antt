@@ -9,10 +9,12 @@ use Rattle.hy_base.specs.declared.layout.Shape.{Shape}
 use Rattle.hy_base.specs.declared.record.Isolation.TheVariants.{Serializable}
 use Rattle.hy_base.specs.declared.workload.Mode.{Mode}
 use Rattle.hy_script.specs.declared.reader.Place.{Place as PlaceCode}
-use Rattle.hy_script.specs.declared.reader.Place.TheVariants.{Start as StartCode, Shaped as ShapedCode, Listing as ListingCode, Programming as ProgrammingCode}
+use Rattle.hy_script.specs.declared.reader.Place.TheVariants.{Start as StartCode, Shaped as ShapedCode, Listing as ListingCode}
+use Rattle.hy_script.specs.declared.reader.Place.TheVariants.{Programming as ProgrammingCode}
 use Rattle.hy_script.specs.declared.reader.Step.{Step}
 use Rattle.hy_script.specs.declared.reader.Step.TheVariants.{To, Reaches}
-use Rattle.hy_script.specs.Grammar.{Place, AtStart, Shaped, Listing, Programming, Scheduled, with_client, with_program, with_tables, begun, gains_command, last_program_count}
+use Rattle.hy_script.specs.Grammar.{Place, AtStart, Shaped, Listing, Programming, Scheduled, with_client, with_program}
+use Rattle.hy_script.specs.Grammar.{with_tables, begun, gains_command, last_program_count}
 use Rattle.hy_script.specs.declared.why.Why.{Why}
 use Rattle.hy_script.specs.declared.script.LineError.{LineError}
 use Rattle.hy_script.specs.declared.script.LineError.TheVariants.{Unfit, Memory}
@@ -62,7 +64,11 @@ IsPlace StartCode = ⊤
 IsPlace (ShapedCode shape) = IsGoodShape shape
 IsPlace (ListingCode script) = ⊤
 IsPlace (ProgrammingCode script program) =
-    (0 < length script.clients) × (last_program_count script.clients < 10000) × (is_told script.shape.version program.isolation ≡ true) × IsAsOf script.shape program.as_of × IsProgram program
+    (0 < length script.clients)
+    × (last_program_count script.clients < 10000)
+    × (is_told script.shape.version program.isolation ≡ true)
+    × IsAsOf script.shape program.as_of
+    × IsProgram program
     × All (FitsTables script.tables) program.commands
 
 abbrev pub IsStep : Step → Type 0
@@ -77,10 +83,19 @@ IsMode shape mode = IsAsOf shape mode.as_of × (is_some mode.as_of ≡ true → 
 abbrev pub IsClientListed : Shape → ℕ → List ScriptClient → ListingLine → Type 0
 IsClientListed shape servers clients (Tables tables) = IsWithin 1 255 tables × (clients ≡ [])
 IsClientListed shape servers clients (Client server) = IsWithin 1 servers server × (client_count clients server < 16)
-IsClientListed shape servers clients (Begin mode) = (0 < length clients) × (last_program_count clients < 10000) × (is_told shape.version mode.isolation ≡ true) × IsMode shape mode
+IsClientListed shape servers clients (Begin mode) =
+    (0 < length clients)
+    × (last_program_count clients < 10000)
+    × (is_told shape.version mode.isolation ≡ true)
+    × IsMode shape mode
 IsClientListed shape servers clients Schedule = ⊤
 
--- and a line of a program whose commands count as so many, in a script with so many tables, and that only reads where that is asked
+-- and a line of a program whose commands count as so many, in a script with so many tables, and that only
+-- reads where that is asked
 abbrev pub IsNextLine : ℕ → Bool → ℕ → ProgramLine → Type 0
-IsNextLine tables reads count (Next command) = IsCommand command × (reads ≡ true → IsReading command) × FitsTables tables command × (count + counts_as command ≤ 64)
+IsNextLine tables reads count (Next command) =
+    IsCommand command
+    × (reads ≡ true → IsReading command)
+    × FitsTables tables command
+    × (count + counts_as command ≤ 64)
 IsNextLine tables reads count End = ⊤

@@ -6,7 +6,12 @@ ghost use Rattle.hy_base.specs.Script.{FitsTables, IsCommand, IsReading, client_
 ghost use Rattle.hy_base.specs.Shape.{IsGoodShape, IsWithin};
 ghost use Rattle.hy_script.specs.Fields.{HasFields, and_then, one_number, two_numbers, three_numbers, four_numbers, no_fields};
 ghost use Rattle.hy_script.specs.LineParts.{IsClientListed, IsMode, IsNextLine};
-ghost use Rattle.hy_script.specs.ScriptFields.{shape_fields, shape_numbers, good_shape, told_by_three, told_by_four, told_with_horizon, servers_fields, servers_line, servers_numbers, position_field, mode_fields, one_more_program, scan_fields, RowTextOf, ValueOf, shape_line, number_within, tables_fields, client_fields, listing_line, one_more, one_more_if, put_fields, del_fields, add_fields, row_fields, unrow_fields, cell_fields, find_fields, writing_line, program_line, TellsField};
+ghost use Rattle.hy_script.specs.ScriptFields.{shape_fields, shape_numbers, good_shape, told_by_three, told_by_four};
+ghost use Rattle.hy_script.specs.ScriptFields.{told_with_horizon, servers_fields, servers_line, servers_numbers};
+ghost use Rattle.hy_script.specs.ScriptFields.{position_field, mode_fields, one_more_program, scan_fields, RowTextOf, ValueOf};
+ghost use Rattle.hy_script.specs.ScriptFields.{shape_line, number_within, tables_fields, client_fields, listing_line, one_more};
+ghost use Rattle.hy_script.specs.ScriptFields.{one_more_if, put_fields, del_fields, add_fields, row_fields, unrow_fields};
+ghost use Rattle.hy_script.specs.ScriptFields.{cell_fields, find_fields, writing_line, program_line, TellsField};
 ghost use Rattle.hy_script.specs.Lines.{words_of};
 ghost use Rattle.hy_base.specs.declared.workload.Command.TheVariants.{Get};
 ghost use Rattle.hy_base.specs.Limits.{IsServerNumber};
@@ -260,7 +265,9 @@ fn tables_of(fields: Fields<'_>) -> Result<ListingLine, Why>
 }
 
 fn client_of(servers: u8, clients: &[Client], fields: Fields<'_>) -> Result<ListingLine, Why>
-    ensures exact { (words : List (List ℕ)) (shape : Shape) (keeps tables : ℕ) → HasFields fields.entry words → result ≡ client_fields (record { shape = shape; servers = servers; keeps = keeps; tables = tables; clients = clients.now }) words }
+    ensures exact { (words : List (List ℕ)) (shape : Shape) (keeps tables : ℕ) → HasFields fields.entry words
+        → result ≡ client_fields
+        (record { shape = shape; servers = servers; keeps = keeps; tables = tables; clients = clients.now }) words }
     ensures fits { (shape : Shape) → IfOk result (IsClientListed shape servers clients.now) }
 {
     let server = within(1, servers, fields)?;
@@ -350,15 +357,21 @@ fn one_more_program(version: u8, count: usize, mode: Mode) -> Result<ListingLine
 
 fn begin_of(shape: Shape, last: &Client, fields: Fields<'_>) -> Result<ListingLine, Why>
     requires { 0 < shape.group }
-    ensures exact { (words : List (List ℕ)) → HasFields fields.entry words → result ≡ and_then (mode_fields shape words) (one_more_program shape.version (length last.now.programs)) }
-    ensures fits { IfOk result (λ l. (mode : Mode) × (l ≡ Begin mode) × (length last.now.programs < 10000) × (is_told shape.version mode.isolation ≡ true) × IsMode shape mode) }
+    ensures exact { (words : List (List ℕ)) → HasFields fields.entry words
+        → result ≡ and_then (mode_fields shape words) (one_more_program shape.version (length last.now.programs)) }
+    ensures fits { IfOk result (λ l. (mode : Mode)
+        × (l ≡ Begin mode)
+        × (length last.now.programs < 10000)
+        × (is_told shape.version mode.isolation ≡ true)
+        × IsMode shape mode) }
 {
     let mode = mode_of(shape, fields)?;
     one_more_program(shape.version, last.programs.len(), mode)
 }
 
 fn schedule_of(fields: Fields<'_>) -> Result<ListingLine, Why>
-    ensures exact { (words : List (List ℕ)) → HasFields fields.entry words → result ≡ and_then (no_fields words) (λ u. Ok Schedule) }
+    ensures exact { (words : List (List ℕ)) → HasFields fields.entry words
+        → result ≡ and_then (no_fields words) (λ u. Ok Schedule) }
     ensures fits { IfOk result (λ l. l ≡ Schedule) }
 {
     no_fields(fields)?;
@@ -417,7 +430,10 @@ pub(crate) fn read_listing(
     line: &[u8],
 ) -> Result<ListingLine, Why>
     requires { 0 < shape.group }
-    ensures exact { (keeps : ℕ) → result ≡ listing_line sim (record { shape = shape; servers = servers; keeps = keeps; tables = tables; clients = clients.now }) (words_of line.now) }
+    ensures exact { (keeps : ℕ)
+        → result
+        ≡ listing_line sim (record { shape = shape; servers = servers; keeps = keeps; tables = tables; clients = clients.now })
+        (words_of line.now) }
     ensures fits { IfOk result (IsClientListed shape servers clients.now) }
 {
     let (word, fields) = cut_fields(line);
@@ -444,7 +460,8 @@ fn one_more(count: usize, command: Command) -> Result<ProgramLine, Why>
     requires lawful { IsCommand command }
     requires few { count ≤ 64 }
     ensures exact { result ≡ one_more count command }
-    ensures fits { (tables : ℕ) (reads : Bool) → (reads ≡ true → IsReading command) → FitsTables tables command → IfOk result (IsNextLine tables reads count) }
+    ensures fits { (tables : ℕ) (reads : Bool) → (reads ≡ true → IsReading command) → FitsTables tables command
+        → IfOk result (IsNextLine tables reads count) }
 {
     if count + counts_as(&command) <= MOST_COMMANDS {
         Ok(ProgramLine::Next(command))
@@ -469,7 +486,8 @@ fn one_write(tables: u8, count: usize, key: Key, command: Command) -> Result<Pro
 
 fn get_of(count: usize, fields: Fields<'_>) -> Result<ProgramLine, LineError>
     requires { count ≤ 64 }
-    ensures exact { (words : List (List ℕ)) → HasFields fields.entry words → TellsField result (and_then (one_number words) (λ key. one_more count (Get key))) }
+    ensures exact { (words : List (List ℕ)) → HasFields fields.entry words
+        → TellsField result (and_then (one_number words) (λ key. one_more count (Get key))) }
     ensures fits { (tables : ℕ) (reads : Bool) → IfOk result (IsNextLine tables reads count) }
 {
     let line = one_more(count, Command::Get(one_number(fields)?))?;
@@ -498,7 +516,8 @@ fn add_of(tables: u8, count: usize, fields: Fields<'_>) -> Result<ProgramLine, L
 
 fn counted_scan(count: usize, fields: Fields<'_>) -> Result<ProgramLine, LineError>
     requires { count ≤ 64 }
-    ensures exact { (words : List (List ℕ)) → HasFields fields.entry words → TellsField result (and_then (scan_fields words) (one_more count)) }
+    ensures exact { (words : List (List ℕ)) → HasFields fields.entry words
+        → TellsField result (and_then (scan_fields words) (one_more count)) }
     ensures fits { (tables : ℕ) (reads : Bool) → IfOk result (IsNextLine tables reads count) }
 {
     let line = one_more(count, scan_of(fields)?)?;
@@ -506,7 +525,8 @@ fn counted_scan(count: usize, fields: Fields<'_>) -> Result<ProgramLine, LineErr
 }
 
 fn end_of(fields: Fields<'_>) -> Result<ProgramLine, LineError>
-    ensures exact { (words : List (List ℕ)) → HasFields fields.entry words → TellsField result (and_then (no_fields words) (λ u. Ok End)) }
+    ensures exact { (words : List (List ℕ)) → HasFields fields.entry words
+        → TellsField result (and_then (no_fields words) (λ u. Ok End)) }
     ensures fits { IfOk result (λ l. l ≡ End) }
 {
     no_fields(fields)?;
@@ -556,7 +576,8 @@ fn row_of(
 
 fn unrow_of(tables: u8, count: usize, fields: Fields<'_>) -> Result<ProgramLine, LineError>
     requires { count ≤ 64 }
-    ensures exact { (words : List (List ℕ)) → HasFields fields.entry words → TellsField result (unrow_fields tables count words) }
+    ensures exact { (words : List (List ℕ)) → HasFields fields.entry words
+        → TellsField result (unrow_fields tables count words) }
     ensures fits { IfOk result (IsNextLine tables false count) }
 {
     let (table, row) = two_numbers(fields)?;
@@ -573,7 +594,8 @@ fn unrow_of(tables: u8, count: usize, fields: Fields<'_>) -> Result<ProgramLine,
 
 fn cell_of(tables: u8, count: usize, fields: Fields<'_>) -> Result<ProgramLine, LineError>
     requires { count ≤ 64 }
-    ensures exact { (words : List (List ℕ)) → HasFields fields.entry words → TellsField result (cell_fields tables count words) }
+    ensures exact { (words : List (List ℕ)) → HasFields fields.entry words
+        → TellsField result (cell_fields tables count words) }
     ensures fits { (reads : Bool) → IfOk result (IsNextLine tables reads count) }
 {
     let (table, row) = two_numbers(fields)?;
@@ -590,7 +612,8 @@ fn cell_of(tables: u8, count: usize, fields: Fields<'_>) -> Result<ProgramLine, 
 
 fn find_of(tables: u8, count: usize, fields: Fields<'_>) -> Result<ProgramLine, LineError>
     requires { count ≤ 64 }
-    ensures exact { (words : List (List ℕ)) → HasFields fields.entry words → TellsField result (find_fields tables count words) }
+    ensures exact { (words : List (List ℕ)) → HasFields fields.entry words
+        → TellsField result (find_fields tables count words) }
     ensures fits { (reads : Bool) → IfOk result (IsNextLine tables reads count) }
 {
     let (table, attribute, n) = three_numbers(fields)?;
@@ -615,7 +638,8 @@ fn read_writing_line(
     fields: Fields<'_>,
 ) -> Result<ProgramLine, LineError>
     requires { count ≤ 64 }
-    ensures exact { (words : List (List ℕ)) → HasFields fields.entry words → TellsField result (writing_line (nat_lt 0 tables) tables count word.now words) }
+    ensures exact { (words : List (List ℕ)) → HasFields fields.entry words
+        → TellsField result (writing_line (nat_lt 0 tables) tables count word.now words) }
     ensures fits { IfOk result (IsNextLine tables false count) }
 {
     if word == b"put".as_slice() {

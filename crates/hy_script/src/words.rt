@@ -2,7 +2,8 @@
 ghost use Rattle.std.specs.Prelude.{◌≡◌, ◌++◌, ◌∷◌, ℕ, List, []};
 ghost use Rattle.std.specs.Option.{option_map_or};
 ghost use Rattle.hy_script.specs.Lines.{pieces_of, words_of};
-ghost use Rattle.hy_script.specs.Fields.{HasFields, HasWords, number_field, one_number, two_numbers, three_numbers, four_numbers, number_and_text, three_numbers_and_text, no_fields};
+ghost use Rattle.hy_script.specs.Fields.{HasFields, HasWords, number_field, one_number, two_numbers, three_numbers};
+ghost use Rattle.hy_script.specs.Fields.{four_numbers, number_and_text, three_numbers_and_text, no_fields};
 ghost use Rattle.std.specs.Result.{result_map_both};
 
 use crate::Why;
@@ -116,7 +117,8 @@ pub fn four_numbers(fields: Fields<'_>) -> Result<(u64, u64, u64, u64), Why>
 
 /// The number and the text that are the fields.
 pub fn number_and_text(fields: Fields<'_>) -> Result<(u64, &[u8]), Why>
-    ensures { (words : List (List ℕ)) → HasFields fields.entry words → result_map_both (λ p. (p.0, p.1.now)) (λ why. why) result ≡ number_and_text words }
+    ensures { (words : List (List ℕ)) → HasFields fields.entry words
+        → result_map_both (λ p. (p.0, p.1.now)) (λ why. why) result ≡ number_and_text words }
 {
     match fields {
         Fields::Two(a, text) => Ok((number_field(a)?, text)),
@@ -126,7 +128,8 @@ pub fn number_and_text(fields: Fields<'_>) -> Result<(u64, &[u8]), Why>
 
 /// The three numbers and the text that are the fields.
 pub fn three_numbers_and_text(fields: Fields<'_>) -> Result<(u64, u64, u64, &[u8]), Why>
-    ensures { (words : List (List ℕ)) → HasFields fields.entry words → result_map_both (λ p. (p.0, p.1, p.2, p.3.now)) (λ why. why) result ≡ three_numbers_and_text words }
+    ensures { (words : List (List ℕ)) → HasFields fields.entry words
+        → result_map_both (λ p. (p.0, p.1, p.2, p.3.now)) (λ why. why) result ≡ three_numbers_and_text words }
 {
     match fields {
         Fields::Four(a, b, c, text) => {

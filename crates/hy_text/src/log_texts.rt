@@ -5,7 +5,11 @@ ghost use Rattle.std.specs.Prelude.{◌≡◌, ◌∷◌, ◌+◌, ◌-◌, ◌+
 ghost use Rattle.std.specs.List.{enumerate_from};
 ghost use Rattle.hy_base.specs.Spelling.{line};
 ghost use Rattle.hy_formats.specs.EntryFormat.{isolation_code};
-ghost use Rattle.hy_formats.specs.Texts.{ahead_fault_text, behind_fault_text, check_text, compact_fault_text, compact_text, config_fault_text, device_fault_text, dump_text, entry_fault_text, entry_text, frame_fault_text, from_words, isolation_words, judged_text, page_fault_text, point_fault_text, row_text, shape_words, spare_fault_text, table_fault_text, version_words, waiting_text};
+ghost use Rattle.hy_formats.specs.Texts.{ahead_fault_text, behind_fault_text, check_text, compact_fault_text, compact_text};
+ghost use Rattle.hy_formats.specs.Texts.{config_fault_text, device_fault_text, dump_text, entry_fault_text, entry_text};
+ghost use Rattle.hy_formats.specs.Texts.{frame_fault_text, from_words, isolation_words, judged_text, page_fault_text};
+ghost use Rattle.hy_formats.specs.Texts.{point_fault_text, row_text, shape_words, spare_fault_text, table_fault_text};
+ghost use Rattle.hy_formats.specs.Texts.{version_words, waiting_text};
 ghost use Rattle.hy_text.specs.LineWords.{spaced};
 
 use crate::texts::{Word, put_line, put_rows, put_verdict, put_words};
@@ -16,7 +20,8 @@ use hy_formats::Header;
 use std::alloc::{AllocError, Global};
 
 fn put_filler(out: &mut Vec<u8>, pos: u64, server: u8) -> Result<(), AllocError>
-    ensures { OnOk result (out.new.items ≡ out.old.items ++ line (codes "entry" ∷ decimal pos ∷ codes "server" ∷ decimal server ∷ codes "filler" ∷ [])) }
+    ensures { OnOk result (out.new.items ≡ out.old.items
+        ++ line (codes "entry" ∷ decimal pos ∷ codes "server" ∷ decimal server ∷ codes "filler" ∷ [])) }
 {
     let words = [
         Word::Number(pos),
@@ -79,8 +84,8 @@ fn put_transaction(
     Ok(())
 }
 
-/// Adds the line of the entry at a position to the dump of a log of this version. Where memory runs out, a part of it may have been
-/// added.
+/// Adds the line of the entry at a position to the dump of a log of this version. Where memory runs out, a part of it
+/// may have been added.
 pub fn put_entry(out: &mut Vec<u8>, version: u8, pos: u64, entry: &Entry) -> Result<(), AllocError>
     ensures { OnOk result (out.new.items ≡ out.old.items ++ entry_text version (pos, entry.now)) }
 {
@@ -97,7 +102,8 @@ fn put_entries(
     from: Pos,
     entries: &[Entry],
 ) -> Result<(), AllocError>
-    ensures { OnOk result (out.new.items ≡ out.old.items ++ flat_map (entry_text version) (enumerate_from (from + 1) entries.now)) }
+    ensures { OnOk result (out.new.items ≡ out.old.items
+        ++ flat_map (entry_text version) (enumerate_from (from + 1) entries.now)) }
 {
     let first = from as u64 + 1;
     for (at, entry) in entries.iter().enumerate() {
@@ -135,10 +141,11 @@ fn put_from(out: &mut Vec<u8>, from: Pos) -> Result<(), AllocError>
     put_words(out, &words)
 }
 
-/// Adds the first line of a log's dump: what its header tells, and how many entries it has. Where memory runs out, a part of it may
-/// have been added.
+/// Adds the first line of a log's dump: what its header tells, and how many entries it has. Where memory runs out, a part of it
+/// may have been added.
 pub fn put_header(out: &mut Vec<u8>, header: Header, count: usize) -> Result<(), AllocError>
-    ensures { OnOk result (out.new.items ≡ out.old.items ++ line (codes "log" ∷ shape_words header.shape ++ (from_words header.from ++ codes "entries" ∷ decimal count ∷ []))) }
+    ensures { OnOk result (out.new.items ≡ out.old.items
+        ++ line (codes "log" ∷ shape_words header.shape ++ (from_words header.from ++ codes "entries" ∷ decimal count ∷ []))) }
 {
     let shape = header.shape;
     let size = [
@@ -224,7 +231,8 @@ fn put_waits(out: &mut Vec<u8>, judged: usize, count: usize) -> Result<(), Alloc
 
 // The live rows, the position that they stand at, and how many they are.
 fn put_state(out: &mut Vec<u8>, judged: usize, live: &[Row]) -> Result<(), AllocError>
-    ensures { OnOk result (out.new.items ≡ out.old.items ++ (line (codes "state" ∷ decimal judged ∷ codes "rows" ∷ decimal (length live.now) ∷ []) ++ flat_map row_text live.now)) }
+    ensures { OnOk result (out.new.items ≡ out.old.items ++ (line
+        (codes "state" ∷ decimal judged ∷ codes "rows" ∷ decimal (length live.now) ∷ []) ++ flat_map row_text live.now)) }
 {
     let words = [
         Word::Number(judged as u64),

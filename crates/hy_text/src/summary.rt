@@ -69,7 +69,9 @@ fn put_counts(
     size: u32,
     entries: &[Shared<Entry>],
 ) -> Result<(), AllocError>
-    ensures { OnOk result (out.new.items ≡ out.old.items ++ (line (codes "load" ∷ codes "seed" ∷ decimal seed ∷ codes "size" ∷ decimal size ∷ []) ++ line (codes "entries" ∷ decimal (length entries.now) ∷ codes "fillers" ∷ decimal (count_by is_filler entries.now) ∷ []))) }
+    ensures { OnOk result (out.new.items ≡ out.old.items
+        ++ (line (codes "load" ∷ codes "seed" ∷ decimal seed ∷ codes "size" ∷ decimal size ∷ []) ++ line (codes "entries"
+        ∷ decimal (length entries.now) ∷ codes "fillers" ∷ decimal (count_by is_filler entries.now) ∷ []))) }
 {
     let made = [
         Word::Plain(b"seed"),
@@ -92,7 +94,9 @@ fn put_verdicts(
     verdicts: &[Option<Verdict>],
     reads: u64,
 ) -> Result<(), AllocError>
-    ensures { OnOk result (out.new.items ≡ out.old.items ++ line (codes "commit" ∷ decimal (count_by is_commit verdicts.now) ∷ codes "pre" ∷ decimal (count_by is_pre verdicts.now) ∷ codes "mate" ∷ decimal (count_by is_mate verdicts.now) ∷ codes "final" ∷ decimal (count_by is_final verdicts.now) ∷ codes "read" ∷ decimal reads ∷ [])) }
+    ensures { OnOk result (out.new.items ≡ out.old.items ++ line (codes "commit" ∷ decimal (count_by is_commit verdicts.now)
+        ∷ codes "pre" ∷ decimal (count_by is_pre verdicts.now) ∷ codes "mate" ∷ decimal (count_by is_mate verdicts.now)
+        ∷ codes "final" ∷ decimal (count_by is_final verdicts.now) ∷ codes "read" ∷ decimal reads ∷ [])) }
 {
     let words = [
         Word::Number(commits(verdicts) as u64),
@@ -125,7 +129,8 @@ pub struct EndedLoad<'a> {
 /// number of programs that only read, and the number of rows that are live. An abort for an old snapshot isn't counted: the log
 /// of a load has no horizon.
 pub fn write_summary(alloc: Global, load: &EndedLoad) -> Result<Vec<u8>, AllocError>
-    ensures { IfOk result (λ text. text.items ≡ summary_text load.now.seed load.now.size load.now.entries.now load.now.verdicts.now load.now.reads load.now.live.now) }
+    ensures { IfOk result (λ text. text.items ≡ summary_text load.now.seed load.now.size load.now.entries.now
+        load.now.verdicts.now load.now.reads load.now.live.now) }
 {
     let mut out = Vec::new(alloc);
     put_counts(&mut out, load.seed, load.size, load.entries)?;

@@ -4,7 +4,9 @@
 ghost use Rattle.std.specs.Prelude.{◌≡◌, ◌∷◌, ◌++◌, [], codes, decimal, flat_map, map, unwrap_or, IfOk, OnOk};
 ghost use Rattle.std.specs.List.{enumerate_from};
 ghost use Rattle.hy_base.specs.Spelling.{event_words, line};
-ghost use Rattle.hy_formats.specs.Texts.{abort_words, answer_text, client_text, memory_fault_text, outcome_words, reply_text, report_text, row_text, script_fault_text, server_text, source_fault_text, trace_text, usage_text, verdict_words};
+ghost use Rattle.hy_formats.specs.Texts.{abort_words, answer_text, client_text, memory_fault_text, outcome_words, reply_text};
+ghost use Rattle.hy_formats.specs.Texts.{report_text, row_text, script_fault_text, server_text, source_fault_text, trace_text};
+ghost use Rattle.hy_formats.specs.Texts.{usage_text, verdict_words};
 ghost use Rattle.hy_text.specs.LineWords.{spaced, word_text};
 
 use hy_base::{
@@ -106,7 +108,8 @@ fn put_pair(out: &mut Vec<u8>, pair: &Pair) -> Result<(), AllocError>
 }
 
 fn put_pairs(out: &mut Vec<u8>, pairs: &[Pair]) -> Result<(), AllocError>
-    ensures { OnOk result (out.new.items ≡ out.old.items ++ flat_map (λ p. line (codes "pair" ∷ decimal p.key ∷ p.value ∷ [])) pairs.now) }
+    ensures { OnOk result (out.new.items ≡ out.old.items
+        ++ flat_map (λ p. line (codes "pair" ∷ decimal p.key ∷ p.value ∷ [])) pairs.now) }
 {
     for pair in pairs {
         put_pair(out, pair)?;

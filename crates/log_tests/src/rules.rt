@@ -11,7 +11,8 @@ use std::test::Fail;
 // What adding 1 to key 7 leaves, on the empty snapshot.
 fn sum(alloc: Global, client: u8) -> Result<Entry, Fail>
     requires { IsClientNumber client }
-    ensures { IfOk result (λ e. (pos : ℕ) → HasLawfulSnap (record { group = 1; window = 1; cap = 8; version = 1; horizon = None }) pos e) }
+    ensures { IfOk result (λ e. (pos : ℕ)
+        → HasLawfulSnap (record { group = 1; window = 1; cap = 8; version = 1; horizon = None }) pos e) }
 {
     let value = Value::new(vec![in alloc; b'1']?).ok();
     Ok(Entry::transaction(Intention {

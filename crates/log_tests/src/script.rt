@@ -56,7 +56,9 @@ fn script_of(alloc: Global, text: &[u8]) -> Option<Script> {
 #[test]
 fn reads_a_script(rt: HostRuntime) -> Result<(), Fail> {
     let text =
-        "# one\nshape 1 1 9\n\nservers 2\nclient 2\nbegin\nget 0\nput 1 #~\ndel 3\nadd 4 9\nscan 5 6 1000\nend\nbegin\nend".as_bytes();
+        "# one\nshape 1 1 9\n\nservers 2\nclient 2\nbegin\nget 0\nput 1 #~\ndel 3\nadd 4 9\nscan 5 6 1000\nend\nbegin\n\
+         end"
+            .as_bytes();
     let Some(script) = script_of(rt.alloc(), text) else {
         return Err(Fail::new("the script is read"));
     };

@@ -76,25 +76,31 @@ fn a_log_with_an_open_group_is_dumped(rt: HostRuntime) -> Result<(), Fail> {
             1,
             None,
             0,
-            "log group 2 window 3 cap 64 entries 3\nentry 1 server 8 client 128 snap 7 points 1 spans 2 writes 3\nentry 2 server 4 filler\nentry 3 server 1 client 1 snap 0 points 0 spans 0 writes 1\n",
+            "log group 2 window 3 cap 64 entries 3\nentry 1 server 8 client 128 snap 7 points 1 spans 2 writes 3\n\
+             entry 2 server 4 filler\nentry 3 server 1 client 1 snap 0 points 0 spans 0 writes 1\n",
         ),
         (
             2,
             None,
             0,
-            "log group 2 window 3 cap 64 version 2 entries 3\nentry 1 server 8 client 128 snap 7 points 1 spans 2 writes 3 iso 0\nentry 2 server 4 filler\nentry 3 server 1 client 1 snap 0 points 0 spans 0 writes 1 iso 0\n",
+            "log group 2 window 3 cap 64 version 2 entries 3\n\
+             entry 1 server 8 client 128 snap 7 points 1 spans 2 writes 3 iso 0\nentry 2 server 4 filler\n\
+             entry 3 server 1 client 1 snap 0 points 0 spans 0 writes 1 iso 0\n",
         ),
         (
             3,
             Some(2147483648),
             0,
-            "log group 2 window 3 cap 64 version 3 horizon 2147483648 entries 3\nentry 1 server 8 client 128 snap 7 points 1 spans 2 writes 3 iso 0\nentry 2 server 4 filler\nentry 3 server 1 client 1 snap 0 points 0 spans 0 writes 1 iso 0\n",
+            "log group 2 window 3 cap 64 version 3 horizon 2147483648 entries 3\n\
+             entry 1 server 8 client 128 snap 7 points 1 spans 2 writes 3 iso 0\nentry 2 server 4 filler\n\
+             entry 3 server 1 client 1 snap 0 points 0 spans 0 writes 1 iso 0\n",
         ),
         (
             1,
             None,
             12,
-            "log group 2 window 3 cap 64 from 12 entries 3\nentry 13 server 8 client 128 snap 7 points 1 spans 2 writes 3\nentry 14 server 4 filler\nentry 15 server 1 client 1 snap 0 points 0 spans 0 writes 1\n",
+            "log group 2 window 3 cap 64 from 12 entries 3\nentry 13 server 8 client 128 snap 7 points 1 spans 2 writes 3\n\
+             entry 14 server 4 filler\nentry 15 server 1 client 1 snap 0 points 0 spans 0 writes 1\n",
         ),
     ];
     for (version, horizon, from, wanted) in rows {
@@ -167,7 +173,9 @@ fn a_load_is_summed_up(rt: HostRuntime) -> Result<(), Fail> {
     ];
     let summary = summary(rt.alloc(), &verdicts)?;
     let wanted =
-        "load seed 18446744073709551615 size 80000\nentries 2 fillers 1\ncommit 1 pre 0 mate 1 final 2 read 3\nstate 2 rows 1\n".as_bytes();
+        "load seed 18446744073709551615 size 80000\nentries 2 fillers 1\ncommit 1 pre 0 mate 1 final 2 read 3\n\
+         state 2 rows 1\n"
+            .as_bytes();
     assert!(rt; summary.as_slice() == wanted);
     Ok(())
 }

@@ -1,4 +1,5 @@
-//! Calls of the program, over devices in memory or others. One function makes them all: what it says of them is the answer alone.
+//! Calls of the program, over devices in memory or others. One function makes them all: what it says of them
+//! is the answer alone.
 ghost use Rattle.std.specs.Prelude.{◌≡◌, IfOk};
 ghost use Rattle.hy_disk.specs.Content.{settled};
 ghost use Rattle.hy_mem.specs.MemDisk.{content_of, HasRoom};

@@ -1,5 +1,5 @@
-//! Calls of `compact` over devices in memory: a copy and a run on it; and the spare device failing at each of its calls, with what
-//! a crash then leaves.
+//! Calls of `compact` over devices in memory: a copy and a run on it; and the spare device failing at each of its calls, with
+//! what a crash then leaves.
 ghost use Rattle.std.specs.Prelude.{◌≤◌};
 
 use crate::calls::{CallAnswer, call_on, ensured, is_answered, roomy};
@@ -19,7 +19,8 @@ const THREE_PUTS: &[u8] =
 const FOURTH: &[u8] = b"shape 1 1 8\nservers 1\nclient 1\nbegin\nget 1\nput 4 d\nend\n";
 
 const FOURTH_OUT: &[u8] =
-    b"trace 3\nb 1\na 1\nr 1 4\nprogram 1 1\nvalue a\nok\nat 4 commit\nserver 1 at 4 rows 4\nrow 1 a by 1\nrow 2 b by 2\nrow 3 c by 3\nrow 4 d by 4\n";
+    b"trace 3\nb 1\na 1\nr 1 4\nprogram 1 1\nvalue a\nok\nat 4 commit\nserver 1 at 4 rows 4\nrow 1 a by 1\nrow 2 b by 2\n\
+      row 3 c by 3\nrow 4 d by 4\n";
 
 const COPIED: CallAnswer<'static> = CallAnswer {
     number: 0,

@@ -20,7 +20,8 @@ use std::thread::Threads;
 const NO_CLIENT_AFTER_PUT: &[u8] = b"trace 0\nserver 1 at 1 rows 1\nrow 1 a by 1\n";
 
 const THREE_CLIENTS: &[u8] =
-    b"shape 2 1 20\nservers 2\nclient 1\nbegin\nput 1 a\nend\nbegin\nadd 7 1\nend\nclient 2\nbegin\nadd 7 1\nend\nbegin\nget 7\nend\nclient 1\nbegin\ndel 1\nend\nbegin\nput 2 b\nend\n";
+    b"shape 2 1 20\nservers 2\nclient 1\nbegin\nput 1 a\nend\nbegin\nadd 7 1\nend\nclient 2\nbegin\nadd 7 1\nend\nbegin\n\
+      get 7\nend\nclient 1\nbegin\ndel 1\nend\nbegin\nput 2 b\nend\n";
 
 const SHORT_PUT: &[u8] = b"shape 1 1 8\nservers 1\nclient 1\nbegin\nput 1\nend\nschedule\n";
 
@@ -28,7 +29,8 @@ const TWO_SUMS: &[u8] =
     b"shape 1 1 8\nservers 1\nclient 1\nbegin\nadd 7 1\nend\nclient 1\nbegin\nadd 7 1\nend\nschedule\nb 1\nb 2\na 1\na 2\n";
 
 const TWO_SUMS_OUT: &[u8] =
-    b"trace 5\nb 1\nb 2\na 1\na 2\nr 1 2\nprogram 1 1\nsum 1\nat 1 commit\nprogram 2 1\nsum 1\nat 2 abort final 7 by 1\nserver 1 at 2 rows 1\nrow 7 1 by 1\n";
+    b"trace 5\nb 1\nb 2\na 1\na 2\nr 1 2\nprogram 1 1\nsum 1\nat 1 commit\nprogram 2 1\nsum 1\nat 2 abort final 7 by 1\n\
+      server 1 at 2 rows 1\nrow 7 1 by 1\n";
 
 const SAVED: &[u8] = b"shape 2 2 8\nservers 1\nclient 1\nbegin\nput 1 a\nend\n";
 
@@ -501,13 +503,13 @@ fn a_write_of_a_gate_fails(rt: HostRuntime) -> Result<(), Fail> {
     is_left(&rt, alloc, 2, fine(0, NONE), none)
 }
 
-// The least number of writes and syncs of a run of the three clients, whichever entries go together. The header takes seven. Two
-// clients append twice each, the second time once the first entry has landed: four calls for the first entries, and four for the
-// second. The five entries leave a group that isn't whole, and its filler takes four of its own.
+// The least number of writes and syncs of a run of the three clients, whichever entries go together. The header takes seven.
+// Two clients append twice each, the second time once the first entry has landed: four calls for the first entries, and four
+// for the second. The five entries leave a group that isn't whole, and its filler takes four of its own.
 const LEAST_CALLS: u64 = 19;
 
-// Whether a run of the three clients ended as it should over a device that fails in its k-th write or sync: the device failed; or
-// the run was over before, which no run is in its least number of calls.
+// Whether a run of the three clients ended as it should over a device that fails in its k-th write or sync: the device failed;
+// or the run was over before, which no run is in its least number of calls.
 fn is_failed_or_over(done: &Done<MemDisk>, sink: &MemSink, k: u64) -> bool {
     if LEAST_CALLS < k && done.log.faults() == 0 {
         return ended_well(done);
@@ -541,8 +543,9 @@ fn crashed<R: Threads + Wait + Sync>(
     ensured((acked, left), is_fine, "a log that can't be checked")
 }
 
-// A crash after a failure leaves the entries that were acknowledged, and at most one batch more: each client has at most one entry in it.
-// How many calls a run makes depends on which entries go together, so a run may be over before the last of these calls.
+// A crash after a failure leaves the entries that were acknowledged, and at most one batch more: each client has at
+// most one entry in it. How many calls a run makes depends on which entries go together, so a run may be over before
+// the last of these calls.
 #[test]
 fn a_device_fails_under_three_clients(rt: HostRuntime) -> Result<(), Fail> {
     let alloc = rt.alloc();

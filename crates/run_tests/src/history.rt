@@ -1,5 +1,6 @@
 //! A small user of the lock: it meets each condition, on one thread and on two.
-ghost use Rattle.std.specs.Prelude.{◌≡◌, [], ◌+◌, ◌<◌, ◌^◌, length, true, false, Some, None, IfSome, IfNone, OnOk, OnErr, slice_get};
+ghost use Rattle.std.specs.Prelude.{◌≡◌, [], ◌+◌, ◌<◌, ◌^◌, length, true, false, Some, None, IfSome, IfNone, OnOk, OnErr};
+ghost use Rattle.std.specs.Prelude.{slice_get};
 ghost use mathlib.Core.List.{IsPrefix};
 ghost use Rattle.run_tests.specs.Desk.{is_away, moves, CountsAt, IsReady};
 ghost use Rattle.hy_hist.specs.Passes.{made, Makes};
@@ -135,7 +136,10 @@ fn count_often<R: Wait>(
 /// Takes the tool in a turn, where it is there, and carries it from then on.
 fn lift<R: Wait>(rt: &R, lock: &HistLock<Desk>, pass: &mut Pass<Desk>) -> Option<u64>
     requires { IsReady lock.now pass.old }
-    ensures kept { (pass.new.lock ≡ pass.old.lock) × (pass.new.holds ≡ false) × (pass.new.parts ≡ pass.old.parts) × (pass.new.claim ≡ None) }
+    ensures kept { (pass.new.lock ≡ pass.old.lock)
+        × (pass.new.holds ≡ false)
+        × (pass.new.parts ≡ pass.old.parts)
+        × (pass.new.claim ≡ None) }
     ensures lifted { IfSome result (λ _. pass.new.carries ≡ true) }
     ensures none { IfNone result (pass.new.carries ≡ false) }
 {
@@ -147,8 +151,14 @@ fn lift<R: Wait>(rt: &R, lock: &HistLock<Desk>, pass: &mut Pass<Desk>) -> Option
 
 /// Brings the tool back in a turn. It is still away, since no other pass can have moved it.
 fn land<R: Wait>(rt: &R, lock: &HistLock<Desk>, pass: &mut Pass<Desk>, tool: u64) -> Result<(), u64>
-    requires { (pass.old.lock ≡ lock.now.name) × (pass.old.holds ≡ false) × (pass.old.carries ≡ true) × (pass.old.claim ≡ None) }
-    ensures kept { (pass.new.lock ≡ pass.old.lock) × (pass.new.holds ≡ false) × (pass.new.parts ≡ pass.old.parts) × (pass.new.claim ≡ None) }
+    requires { (pass.old.lock ≡ lock.now.name)
+        × (pass.old.holds ≡ false)
+        × (pass.old.carries ≡ true)
+        × (pass.old.claim ≡ None) }
+    ensures kept { (pass.new.lock ≡ pass.old.lock)
+        × (pass.new.holds ≡ false)
+        × (pass.new.parts ≡ pass.old.parts)
+        × (pass.new.claim ≡ None) }
     ensures landed { OnOk result (pass.new.carries ≡ false) }
     ensures memory { OnErr result (pass.new.carries ≡ true) }
 {
@@ -187,14 +197,18 @@ fn count_both<R: Threads + Wait + Sync>(
         rt,
         move || -> (Pass<Desk>, Option<u64>)
             requires { IsReady shared.now one × (0 < times) }
-            ensures { IsReady shared.entry.now result.0 × (result.0.parts ≡ one.parts) × IfSome result.1 (λ k. Makes result.0 k (Some x)) }
+            ensures { IsReady shared.entry.now result.0
+                × (result.0.parts ≡ one.parts)
+                × IfSome result.1 (λ k. Makes result.0 k (Some x)) }
         {
             let place = count_often(rt, shared, &mut one, x, times);
             (one, place)
         },
         move || -> (Pass<Desk>, Option<u64>)
             requires { IsReady shared.now other × (0 < times) }
-            ensures { IsReady shared.entry.now result.0 × (result.0.parts ≡ other.parts) × IfSome result.1 (λ k. Makes result.0 k (Some y)) }
+            ensures { IsReady shared.entry.now result.0
+                × (result.0.parts ≡ other.parts)
+                × IfSome result.1 (λ k. Makes result.0 k (Some y)) }
         {
             let place = count_often(rt, shared, &mut other, y, times);
             (other, place)

@@ -31,7 +31,11 @@ pub type Trial<D, B> = (Hub<D, B>, Pass<Contents<D, B>>);
 /// A log without entries on a device.
 pub fn open_on<D: Disk + Drop>(alloc: Global, disk: D, shape: Shape) -> Result<PageLog<D>, Fail>
     requires { IsGoodShape shape }
-    ensures { IfOk result (λ log. (log.stopped ≡ None) × (log.batch ≡ []) × (log.bodies ≡ []) × (log.from ≡ 0) × (log.shape ≡ shape)) }
+    ensures { IfOk result (λ log. (log.stopped ≡ None)
+        × (log.batch ≡ [])
+        × (log.bodies ≡ [])
+        × (log.from ≡ 0)
+        × (log.shape ≡ shape)) }
 {
     let Ok(log) = open_log(alloc, disk, Some(shape)) else {
         return Err("not opened")?;
@@ -75,7 +79,12 @@ pub fn hub_on<D: Disk + Drop, B: Since>(
     shape: Shape,
     log: PageLog<D>,
 ) -> Result<Trial<D, B>, Fail>
-    requires log { IsGoodShape shape × (log.stopped ≡ None) × (log.batch ≡ []) × (log.bodies ≡ []) × (log.from ≡ 0) × (log.shape ≡ shape) }
+    requires log { IsGoodShape shape
+        × (log.stopped ≡ None)
+        × (log.batch ≡ [])
+        × (log.bodies ≡ [])
+        × (log.from ≡ 0)
+        × (log.shape ≡ shape) }
     requires untold { IsTrue D.tells → ⊥ }
     requires least { B.least ≡ 0 }
     requires version { B.version ≡ shape.version }

@@ -1,6 +1,7 @@
 //! Tests of what a run is made of, and of whole calls: trees, melds and rollers; simulated runs; the list that threads
-//! share, and hubs; a stream in pieces; and `hyder_call` over sources, sinks and devices in memory, with what a failure of each of their calls leaves.
-//! Texts, statuses and files are tried on the program itself, by `tests/rows`. It promises nothing to a crate above.
+//! share, and hubs; a stream in pieces; and `hyder_call` over sources, sinks and devices in memory, with what a failure of
+//! each of their calls leaves. Texts, statuses and files are tried on the program itself, by `tests/rows`. It promises
+//! nothing to a crate above.
 #![tactic(auto)]
 
 #[cfg(test)]
