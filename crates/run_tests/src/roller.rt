@@ -310,8 +310,8 @@ fn in_parts<R: Threads + Sync, G: Gate + Sync>(
         return Err(Fail::new("the log is shorter"));
     }
     let (front, back) = entries.split_at(place);
-    let part = rolled(rt, alloc, shape, front, threads, gate)?;
-    let end = further(rt, alloc, shape, &part, back, threads, gate);
+    let part = rolled(runtime, shape, front)?;
+    let end = further(runtime, shape, &part, back);
     drop(part);
     end
 }
