@@ -21,27 +21,26 @@ use std::alloc::{AllocError, Global};
 use std::marker::Brand;
 use std::sync::ledger::{Blank, Ledger};
 
-/// What so many whole groups of a log decide: the verdict at each position, all that committed in the order of the log,
-/// and the last row of each key, without the tombstones at or below the line.
+/// What so many whole groups of a log decide: the verdict at each position, and the last row of each key, without the tombstones at
+/// or below the line.
 #[derive(Drop)]
 pub struct Folded {
     pub groups: u32,
     pub verdicts: Verdicts,
-    pub history: Rows,
     pub rows: Rows,
 }
 
 // Adds what an entry wrote, where it committed.
 fn add_committed(
-    history: &mut Vec<Row>,
+    rows: &mut Vec<Row>,
     pos: Pos,
     entry: &Entry,
     verdict: Option<Verdict>,
 ) -> Result<(), AllocError>
-    ensures { OnOk result (history.new.items ≡ history.old.items ++ committed_at pos entry.now (is_commit verdict)) }
+    ensures { OnOk result (rows.new.items ≡ rows.old.items ++ committed_at pos entry.now (is_commit verdict)) }
 {
     if let (Some(Verdict::Commit), EntryKind::Txn(intention)) = (verdict, entry.kind()) {
-        add_rows(history, pos, intention.writes.as_slice())?;
+        add_rows(rows, pos, intention.writes.as_slice())?;
     }
     Ok(())
 }
@@ -49,7 +48,7 @@ fn add_committed(
 // Adds the verdicts of a group, and what its members wrote that committed.
 fn add_group(
     verdicts: &mut Vec<Option<Verdict>>,
-    history: &mut Vec<Row>,
+    rows: &mut Vec<Row>,
     upto: Pos,
     group: &[Entry],
     judged: &[Option<Verdict>],
@@ -57,27 +56,27 @@ fn add_group(
     requires fits { upto + length group.now < 2 ^ 32 }
     requires count { length judged.now ≡ length group.now }
     ensures verdicts { OnOk result (verdicts.new.items ≡ verdicts.old.items ++ judged.now) }
-    ensures history { OnOk result (history.new.items ≡ history.old.items ++ history_from (upto + 1) group.now judged.now) }
+    ensures rows { OnOk result (rows.new.items ≡ rows.old.items ++ history_from (upto + 1) group.now judged.now) }
 {
     let mut pos = upto;
     for at in 0..group.len() {
         pos += 1;
-        add_committed(history, pos, &group[at], judged[at])?;
+        add_committed(rows, pos, &group[at], judged[at])?;
         verdicts.push(judged[at])?;
     }
     Ok(())
 }
 
-fn with_row(alloc: Global, tree: &Tree, row: &Row) -> Result<Tree, AllocError>
-    ensures { IfOk result (λ t. t ≡ put row_before row.now tree.now) }
+fn with_row(alloc: Global, tree: &Tree, row: Row) -> Result<Tree, AllocError>
+    ensures { IfOk result (λ t. t ≡ put row_before row tree.now) }
 {
-    let Row { key, writer, value } = row.clone()?;
+    let Row { key, writer, value } = row;
     tree.put(alloc, key, writer, value)
 }
 
 // The tree with these rows put in place, one after another.
-fn with_rows(alloc: Global, tree: Tree, rows: &[Row]) -> Result<Tree, AllocError>
-    ensures { IfOk result (λ t. t ≡ applied tree rows.now) }
+fn with_rows(alloc: Global, tree: Tree, rows: Vec<Row>) -> Result<Tree, AllocError>
+    ensures { IfOk result (λ t. t ≡ applied tree rows.items) }
 {
     let mut tree = tree;
     for row in rows {
@@ -105,22 +104,19 @@ impl LastRows {
         }
     }
 
-    // With what one more group committed, the history from a place on. It may be the last group of a window.
+    // With what one more group committed. It may be the last group of a window.
     fn with_group(
         self,
         alloc: Global,
-        history: &[Row],
-        from: usize,
+        rows: Vec<Row>,
         is_last: bool,
     ) -> Result<LastRows, AllocError>
-        requires { from ≤ length history.now }
-        ensures now { IfOk result (λ after. after.now ≡ applied self.now (drop from history.now)) }
-        ensures kept { IfOk result (λ after.
-            after.kept ≡ (if is_last then applied self.now (drop from history.now) else self.kept)) }
+        ensures now { IfOk result (λ after. after.now ≡ applied self.now rows.items) }
+        ensures kept { IfOk result (λ after. after.kept ≡ (if is_last then applied self.now rows.items else self.kept)) }
         ensures base { IfOk result (λ after. after.base ≡ (if is_last then self.kept else self.base)) }
     {
         let LastRows { now, kept, base } = self;
-        let now = with_rows(alloc, now, &history[from..])?;
+        let now = with_rows(alloc, now, rows)?;
         if is_last {
             Ok(LastRows {
                 base: kept,
@@ -189,7 +185,6 @@ fn folded_after(alloc: Global, entries: &[Entry], shape: Shape) -> Result<Folded
     let size = shape.group as usize;
     let mut groups = 0;
     let mut verdicts = Vec::new(alloc);
-    let mut history = Vec::new(alloc);
     let mut last = LastRows::none();
     let mut upto = 0;
     while upto + size <= entries.len() {
@@ -205,17 +200,16 @@ fn folded_after(alloc: Global, entries: &[Entry], shape: Shape) -> Result<Folded
             upto as Pos,
             group,
         )?;
-        let before = history.len();
-        add_group(&mut verdicts, &mut history, upto as Pos, group, &judged)?;
+        let mut rows = Vec::new(alloc);
+        add_group(&mut verdicts, &mut rows, upto as Pos, group, &judged)?;
         groups += 1;
         upto += size;
         let is_last = groups % shape.window as u32 == 0;
-        last = last.with_group(alloc, &history, before, is_last)?;
+        last = last.with_group(alloc, rows, is_last)?;
     }
     Ok(Folded {
         groups,
         verdicts: Items::from_vec(verdicts),
-        history: Items::from_vec(history),
         rows: Items::from_vec(unpurged(alloc, &last.now, shape.line(groups))?),
     })
 }

@@ -7,5 +7,5 @@ abbrev pub invariant-loop-at : goal.invariant-loop-at
 invariant-loop-at l = record {
   place : l.pos ≡ l.upto + l.at;
   verdicts : l.verdicts.items ++ drop l.at l.judged ≡ l.initial.verdicts.items ++ l.judged;
-  history : l.history.items ++ history_from (l.pos + 1) (drop l.at l.group) (drop l.at l.judged) ≡ l.initial.history.items ++ history_from (l.upto + 1) l.group l.judged;
+  rows : l.rows.items ++ history_from (l.pos + 1) (drop l.at l.group) (drop l.at l.judged) ≡ l.initial.rows.items ++ history_from (l.upto + 1) l.group l.judged;
 }
