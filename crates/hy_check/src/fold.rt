@@ -21,8 +21,8 @@ use std::alloc::{AllocError, Global};
 use std::marker::Brand;
 use std::sync::ledger::{Blank, Ledger};
 
-/// What so many whole groups of a log decide: the verdict at each position, and the last row of each key, without the tombstones at
-/// or below the line.
+/// What so many whole groups of a log decide: the verdict at each position, and the last row of each key, without the
+/// tombstones at or below the line.
 #[derive(Drop)]
 pub struct Folded {
     pub groups: u32,
