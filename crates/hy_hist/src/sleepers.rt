@@ -1,6 +1,6 @@
-//! How many passes sleep until the turn is given up: where none does, whoever gives it up makes no call to wake one. No clause speaks
-//! of it. A pass counts itself before it looks at the turn for the last time and sleeps, and the turn is given up before the count
-//! is read; so, all of these in one order, either the pass is seen or it sees the turn free.
+//! How many passes sleep until the turn is given up: where none does, whoever gives it up makes no call to wake one. No
+//! clause speaks of it. A pass counts itself before it looks at the turn for the last time and sleeps, and the turn is given
+//! up before the count is read; so, all of these in one order, either the pass is seen or it sees the turn free.
 use std::sync::atomic::{AtomicU64, Ordering};
 
 /// A count of those who sleep, or are about to.
