@@ -10,7 +10,7 @@ use Rattle.hy_base.specs.Lists.{nth, change_nth}
 use Rattle.hy_base.specs.Script.{Workload, IsScript}
 use Rattle.hy_base.proofs.NthLemmas.{nth_some, map_change, length_change, all_nth}
 use Rattle.hy_rolling.specs.Rolling.{Roll, rolled_upto, roll_on}
-use Rattle.hy_rules.specs.Moves.{State, board_of, is_declared, ends_whole_group, keeping}
+use Rattle.hy_rules.specs.Moves.{State, board_of, is_declared, is_whole, keeping}
 use Rattle.hy_rules.specs.Runs.{setting_of, may_happen}
 use Rattle.hy_core.specs.CoreParts.{Holding, IsHolding, IsServerBoard, MovesOn, RolledBoard, StepsTo, entries_between, furthest, keeping_rolls, moving_on, state_in_course, done_of}
 use Rattle.hy_core.proofs.Beginning.{board_is}
@@ -28,10 +28,10 @@ pub may_publish : (script : Workload) (h : Holding) (server upto : ℕ) → may_
 may_publish script h server upto may =
     let s : State = state_in_course h in
     let w = setting_of script in
-    let enabled : (is_declared w server && (ends_whole_group w upto && (nat_lt (board_of s server) upto && nat_le upto (length s.log)))) ≡ true = (and_parts _ true may).0 in
-    let two : (ends_whole_group w upto && (nat_lt (board_of s server) upto && nat_le upto (length s.log))) ≡ true = (and_parts (is_declared w server) _ enabled).1 in
-    let whole : (upto % script.shape.group == 0) ≡ true = (and_parts (ends_whole_group w upto) _ two).0 in
-    let rest : (nat_lt (board_of s server) upto && nat_le upto (length s.log)) ≡ true = (and_parts (ends_whole_group w upto) _ two).1 in
+    let enabled : (is_declared w server && (is_whole w.shape upto && (nat_lt (board_of s server) upto && nat_le upto (length s.log)))) ≡ true = (and_parts _ true may).0 in
+    let two : (is_whole w.shape upto && (nat_lt (board_of s server) upto && nat_le upto (length s.log))) ≡ true = (and_parts (is_declared w server) _ enabled).1 in
+    let whole : (upto % script.shape.group == 0) ≡ true = (and_parts (is_whole w.shape upto) _ two).0 in
+    let rest : (nat_lt (board_of s server) upto && nat_le upto (length s.log)) ≡ true = (and_parts (is_whole w.shape upto) _ two).1 in
     let above : nat_lt (board_of s server) upto ≡ true = (and_parts (nat_lt (board_of s server) upto) _ rest).0 in
     let within : nat_le upto (length s.log) ≡ true = (and_parts (nat_lt (board_of s server) upto) _ rest).1 in
     record { declared = server_is script.servers server (and_parts (is_declared w server) _ enabled).0; whole = grind (arith, whole); above = grind (arith, above); within = grind (arith, within) }

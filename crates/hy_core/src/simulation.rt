@@ -6,7 +6,8 @@ ghost use Rattle.hy_base.specs.Rows.{Agrees};
 ghost use Rattle.hy_base.specs.Shape.{line_after};
 ghost use Rattle.hy_rules.specs.History.{live_rows};
 ghost use Rattle.hy_rules.specs.Validation.{rows, verdicts};
-ghost use Rattle.hy_rules.specs.Runs.{setting_of, step, next_event, is_finished, results_at};
+ghost use Rattle.hy_rules.specs.Runs.{setting_of, step, is_finished, results_at};
+ghost use Rattle.hy_rules.specs.Tail.{next_event};
 ghost use Rattle.hy_core.specs.Course.{Course, IsReached, Advances, Breaks, Follows, FollowsSome, HasSoundTables, IsRefusedAt};
 ghost use Rattle.hy_core.specs.Course.{Extends, Completes, opened_course};
 

@@ -21,7 +21,7 @@ use Rattle.hy_base.specs.Shape.{IsWithin, is_within, whole_groups}
 use Rattle.hy_base.proofs.GroupLemmas.{whole_below}
 use Rattle.hy_base.proofs.ListLemmas.{all_append}
 use Rattle.hy_base.proofs.NthLemmas.{All-nth, all_nth, length_change, nth_in_map, nth_some}
-use Rattle.hy_rules.specs.Moves.{Setting, State, fresh_session, is_begun, is_declared, is_kept, ends_whole_group, enabled, client_passes, may_begin, Start, On, Past, NotYet, start_at, start_of, asked_position, started, at_next_program, appended, abandoned, restarted, board_of, earlier_of, least_kept, home_server, keeping, opening, after}
+use Rattle.hy_rules.specs.Moves.{Setting, State, fresh_session, is_begun, is_declared, is_kept, is_whole, enabled, client_passes, may_begin, Start, On, Past, NotYet, start_at, start_of, asked_position, started, at_next_program, appended, abandoned, restarted, board_of, earlier_of, least_kept, home_server, keeping, opening, after}
 use Rattle.hy_rules.specs.Runs.{setting_of, opening_of, added, begun_snap, run, snap_of, suits, Ending, ByReading, ByEntryAt, ByFull, ByStop, ByPast, ByNotYet, Ended, ended, ended_by, ended_by_append, ended_by_start, ended_in, lost_by_stop}
 use Rattle.hy_rules.specs.Serial.{is_entry_at}
 use Rattle.hy_rules.proofs.Backward.{run_back, run_keeps}
@@ -157,7 +157,7 @@ past_after base w s (Refuse client) more is e h = past_sessions base w s at_next
 past_after base w s (Pad server) more is e h = past_stop base w _ s.armed is (past_longer base w s more h)
 past_after base w s (Publish server upto) more is e h =
     let parts = and_parts (is_declared w server) _ e in
-    let rest = and_parts (ends_whole_group w upto) _ parts.1 in
+    let rest = and_parts (is_whole w.shape upto) _ parts.1 in
     let further : board_of s server < upto = ltb-true (board_of s server) upto (and_parts (nat_lt (board_of s server) upto) _ rest.1).0 in
     let old : base ≤ board_of s server = board_past base w s server h (within_test 1 w.servers server parts.0) in
     record {

@@ -5,9 +5,10 @@ use Rattle.std.specs.List.{range_with_len}
 use Rattle.std.proofs.lemmas.Bool.{eqb-true, eqb-false, ltb-true, ltb-false, le-leb}
 use Rattle.hy_base.specs.declared.record.EntryKind.{EntryKind}
 use Rattle.hy_base.specs.declared.workload.Event.TheVariants.{Begin}
+use Rattle.hy_base.specs.declared.workload.Phase.TheVariants.{Begun}
 use Rattle.hy_base.specs.declared.workload.Session.{Session}
 use Rattle.hy_base.specs.Lists.{change_nth}
-use Rattle.hy_rules.specs.Moves.{State, begun_at, board_of, home_server, may_begin, started}
+use Rattle.hy_rules.specs.Moves.{State, board_of, home_server, may_begin, started}
 use Rattle.hy_rules.specs.Runs.{may_happen, run, setting_of}
 use Rattle.hy_rules.proofs.Backward.{next_state}
 use Rattle.hy_gen.specs.Load.{program_count, script_of}
@@ -62,11 +63,11 @@ one_begins seed readers t client log done x todo least most at before = go (is_f
         let test : may_begin s (load_home seed size client) x ≡ true = rw (idle.phase, fits, low) refl in
         let may : may_happen (script_of seed size) s (Begin client) ≡ true =
         ap (λ b. b && true) (passes seed size client log boards (done ++ x ∷ todo) x (may_begin s) least most (nth_middle done x todo client at) ∙ test) in
-        let next_is : next_state (script_of seed size) s (Begin client) ≡ calm_state log boards (done ++ begun_at board x ∷ todo) =
+        let next_is : next_state (script_of seed size) s (Begin client) ≡ calm_state log boards (done ++ record x { phase = Begun board } ∷ todo) =
         ap (λ start. calm_state log boards (change_nth (started start) (done ++ x ∷ todo) client)) (starts_on_board seed size client log boards (done ++ x ∷ todo) x least most (nth_middle done x todo client at))
-        ∙ ap (calm_state log boards) (change_middle (begun_at board) done x todo client at) in
+        ∙ ap (calm_state log boards) (change_middle (λ (y : Session). record y { phase = Begun board }) done x todo client at) in
         record {
-          session = begun_at board x;
+          session = record x { phase = Begun board };
           amid = record { last = before.last; does = inr (record { snap = board; phase = refl; next = let n = idle.next in omega (arith, n, few); left = few }) };
           leads = rw begins (run_one (script_of seed size) s (Begin client) may ∙ ap (λ n. Some n) next_is);
         }

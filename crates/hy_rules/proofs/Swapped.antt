@@ -13,7 +13,7 @@ use Rattle.hy_base.specs.declared.workload.Session.{Session}
 use Rattle.hy_base.specs.Lists.{change_nth}
 use Rattle.hy_base.specs.Shape.{whole_groups}
 use Rattle.hy_rules.specs.CutLogs.{filled, starting_with, swapped}
-use Rattle.hy_rules.specs.Moves.{Setting, State, Moves, board_of, is_begun, client_passes, is_declared, ends_whole_group, enabled, IsOwnEntry, MayAdd, after, appended, stopped_if_armed, surviving, missing, abandoned, opening}
+use Rattle.hy_rules.specs.Moves.{Setting, State, Moves, board_of, is_begun, client_passes, is_declared, is_whole, enabled, IsOwnEntry, MayAdd, after, appended, stopped_if_armed, surviving, missing, abandoned, opening}
 
 -- ---- the log
 
@@ -57,8 +57,8 @@ module _ (w : Setting) (before : List EntryKind) where
     blind_enabled (Append client) = ap (λ (k : ℕ). client_passes w s client (λ home session. is_begun session.phase) && nat_lt k w.shape.cap) same
     blind_enabled (End client) = refl
     blind_enabled (Refuse client) = ap (λ (k : ℕ). client_passes w s client (λ home session. is_begun session.phase) && (k == w.shape.cap)) same
-    blind_enabled (Pad server) = ap (λ (k : ℕ). is_declared w server && not (ends_whole_group w k)) same
-    blind_enabled (Publish server upto) = ap (λ (k : ℕ). is_declared w server && (ends_whole_group w upto && (nat_lt (board_of s server) upto && nat_le upto k))) same
+    blind_enabled (Pad server) = ap (λ (k : ℕ). is_declared w server && not (is_whole w.shape k)) same
+    blind_enabled (Publish server upto) = ap (λ (k : ℕ). is_declared w server && (is_whole w.shape upto && (nat_lt (board_of s server) upto && nat_le upto k))) same
     blind_enabled (Stop call pattern) = refl
 
     blind_entry : (client : ℕ) (e : EntryKind) → IsOwnEntry w s client e → IsOwnEntry w (swapped before s) client e
