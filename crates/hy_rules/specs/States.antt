@@ -1,5 +1,5 @@
 -- The store's state: the log, what each server has published, where each client stands, and how a program begins and ends.
-use Rattle.std.specs.Prelude.{ℕ, ◌+◌, ◌-◌, ◌%◌, Bool, true, false, ◌&&◌, not, List, [], ◌∷◌, ◌++◌, map, length, replicate}
+use Rattle.std.specs.Prelude.{ℕ, ◌-◌, ◌%◌, Bool, false, ◌&&◌, not, List, [], map, length, replicate}
 use Rattle.std.specs.Prelude.{filter_map, Option, Some, None, is_some, option_map, option_and_then, option_to_list, unwrap_or}
 use Rattle.std.specs.Prelude.{nat_lt, nat_le, ◌==◌, if◌then◌else◌}
 use Rattle.std.specs.Option.{option_map_or}
