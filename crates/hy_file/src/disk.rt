@@ -51,7 +51,7 @@ impl<'a, R: Files> FileDisk<'a, R> {
         }
     }
 
-    /// The same, over a file that grows by more than is written: a write that ends past the file's end puts 64 KiB of zeros
+    /// A device over a file that grows by more than is written: a write that ends past the file's end puts 64 KiB of zeros
     /// behind it, as far as the disk has room for them. So a sync after a write within them doesn't wait for the
     /// file's new length.
     pub fn preallocated(files: R, path: &'a str) -> FileDisk<'a, R>

@@ -105,7 +105,7 @@ after_rolling f = rolled_by f.roll f
 abbrev pub TakesAll : Following → List ℕ → Following → Type 0
 TakesAll f bytes g = (c : Streamed) → HoldsWhatCame c f → HoldsWhatCame (taken c bytes) g
 
--- The same, with more bytes to be taken then.
+-- Whatever has come of a stream before, and is held, is held with these bytes, and there are more to be taken then.
 abbrev pub TakesSome : Following → List ℕ → Following → List ℕ → Type 0
 TakesSome f bytes g more =
     (c : Streamed) → HoldsWhatCame c f

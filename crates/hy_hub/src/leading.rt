@@ -28,8 +28,8 @@ use hy_log::PipelinedLog;
 use std::sync::Wait;
 
 // How many batches a call writes at most once its own entry is in the log, one after another. A call whose answer is known
-// shouldn't serve others for long; and with nine the wait for the next leader to wake comes once in ten batches.
-const MOST_BATCHES: usize = 9;
+// shouldn't serve others for long; and with sixteen the wait for the next leader to wake comes once in seventeen batches.
+const MOST_BATCHES: usize = 16;
 
 // Whom a landing wakes: those whom it concerns, and the client of the batch that wakes the others.
 #[derive(Drop)]

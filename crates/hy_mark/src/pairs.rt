@@ -120,7 +120,7 @@ impl MarkList {
         Ok(MarkList { marks })
     }
 
-    /// The same, where the others are taken over.
+    /// The marks of both, where the others are taken over.
     pub fn with(&self, alloc: Global, other: MarkList) -> Result<MarkList, AllocError>
         ensures { IfOk result (λ p. (key : ℕ) → dep p key ≡ lesser (dep self.now key) (dep other key)) }
     {

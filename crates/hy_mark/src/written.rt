@@ -111,7 +111,7 @@ impl Written {
         Ok(Written { rows })
     }
 
-    /// The same, where the others are taken over.
+    /// The rows with those of another list in place, which is taken over.
     pub fn with(&self, alloc: Global, other: Written) -> Result<Written, AllocError>
         ensures { IfOk result (λ w. w ≡ applied self.now other) }
     {

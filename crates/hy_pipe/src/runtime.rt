@@ -31,7 +31,7 @@ impl<'a, R, G> Runtime<'a, R, G> {
         }
     }
 
-    /// The same with other threads: so many.
+    /// This runtime with another number of threads.
     pub fn with_threads(&self, threads: usize) -> Runtime<'a, R, G>
         requires { IsThreadCount threads }
         ensures { result.threads ≡ threads }

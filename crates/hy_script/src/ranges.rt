@@ -38,7 +38,7 @@ pub fn is_row(tables: u8, table: u64, row: u64) -> bool
     1 <= table && table <= tables as u64 && row < ROW_LIMIT
 }
 
-/// The same of a row with an attribute.
+/// Whether a table is one of so many, and may have this row with this attribute.
 pub fn is_row_with(tables: u8, table: u64, row: u64, attribute: u64) -> bool
     ensures exact { result ≡ is_row_with tables table row attribute }
     ensures within { result ≡ true → IsWithin 1 tables table × (row < row_limit) × (attribute < attribute_limit) }

@@ -470,7 +470,7 @@ fn one_more(count: usize, command: Command) -> Result<ProgramLine, Why>
     }
 }
 
-// The same of a command that writes a key, which is no key of a table.
+// A further command that writes a key, which is no key of a table.
 fn one_write(tables: u8, count: usize, key: Key, command: Command) -> Result<ProgramLine, Why>
     requires lawful { IsCommand command }
     requires fits { is_table_key tables key ≡ false → FitsTables tables command }
