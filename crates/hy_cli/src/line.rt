@@ -51,17 +51,17 @@ pub enum CliError {
 }
 
 impl From<AllocError> for CliError {
-    ghost from_gives = { λ _ e. e ≡ Memory };
+    ghost from_gives = { λ _ error. error ≡ Memory };
 
-    fn from(_: AllocError) -> CliError {
-        CliError::Memory
+    fn from(_: AllocError) -> Self {
+        Self::Memory
     }
 }
 
 impl<T: Drop> From<AllocFailed<T>> for CliError {
-    ghost from_gives = { λ _ e. e ≡ Memory };
+    ghost from_gives = { λ _ error. error ≡ Memory };
 
-    fn from(_: AllocFailed<T>) -> CliError {
-        CliError::Memory
+    fn from(_: AllocFailed<T>) -> Self {
+        Self::Memory
     }
 }

@@ -67,10 +67,10 @@ impl From<AllocError> for StepError {
     ghost use Rattle.std.specs.Prelude.{◌≡◌};
     ghost use Rattle.hy_core.specs.declared.simulation.StepError.TheVariants.{Memory};
 
-    ghost from_gives = { λ _ e. e ≡ Memory };
+    ghost from_gives = { λ _ error. error ≡ Memory };
 
-    fn from(_error: AllocError) -> StepError {
-        StepError::Memory
+    fn from(_: AllocError) -> Self {
+        Self::Memory
     }
 }
 

@@ -10,6 +10,7 @@ use Rattle.hy_formats.specs.EntryFormat.{entries_past, spelling}
 use Rattle.hy_rules.specs.CutLogs.{AreLawfulPast}
 use Rattle.hy_disk.specs.Content.{Content, Image}
 use Rattle.hy_disk.specs.Moments.{LeavesOnly}
+use Rattle.hy_log.specs.View.{LogView}
 use Rattle.hy_entries.specs.declared.reading.EntriesError.{EntriesError}
 use Rattle.hy_entries.specs.declared.reading.EntriesError.TheVariants as reading
 
@@ -37,3 +38,12 @@ pub record OnlyLooks {D T : Type 0} (content : D → Content) (moment : D → �
   pub later : faults_of old ≤ faults_of new
   pub device : result ≡ Err reading.Device → Rose (faults_of old) (faults_of new)
   pub room : (k b : ℕ) → has_room old k b → (result ≢ Err reading.Device) × has_room new k b
+
+-- a log that is as it was, but for its device
+pub record IsSameLog {D : Type 0} (old new : LogView D) : Type 0 where
+  pub shape : new.shape ≡ old.shape
+  pub from : new.from ≡ old.from
+  pub stopped : new.stopped ≡ old.stopped
+  pub batch : new.batch ≡ old.batch
+  pub spare : new.spare ≡ old.spare
+  pub bodies : new.bodies ≡ old.bodies

@@ -9,6 +9,7 @@ ghost use Rattle.hy_log.specs.Looks.{IsLook};
 ghost use Rattle.hy_log.specs.View.{position_count};
 ghost use Rattle.hy_base.specs.Entry.{IsSoundEntry};
 ghost use Rattle.hy_entries.specs.Listing.{IsListing};
+ghost use Rattle.hy_entries.specs.LogEntries.{IsSameLog};
 
 use crate::receiving::Receiver;
 use hy_base::{Entry, Failed, Pos};
@@ -46,12 +47,7 @@ fn read_entry<D: Disk>(
     ensures spelled { IsTrue D.tells → IfOk result (λ read.
         IfOk read (λ entry. nth log.old.bodies (pos - log.old.from) ≡ Some (spelling log.old.shape.version entry))) }
     ensures space { length buffer.new ≡ length buffer.old }
-    ensures same { (log.new.shape ≡ log.old.shape)
-        × (log.new.stopped ≡ log.old.stopped)
-        × (log.new.batch ≡ log.old.batch)
-        × (log.new.spare ≡ log.old.spare)
-        × (log.new.from ≡ log.old.from) }
-    ensures bodies { log.new.bodies ≡ log.old.bodies }
+    ensures same { IsSameLog log.old log.new }
     ensures look { IsLook D.content D.moment D.left_since D.faults_of D.has_room log.old.disk log.new.disk result }
 {
     let shape = log.shape();
@@ -76,16 +72,11 @@ pub fn hand_over<D: Disk, R: Receiver>(
 ) -> Result<Listing, Failed>
     requires first { log.old.from ≤ after }
     requires last { after ≤ position_count log.old }
-    requires takes { R.takes receiver.old log.old.shape.version }
+    requires fits { R.fits receiver.old log.old.shape.version }
     requires space { length buffer.old ≡ longest_record }
     ensures listing { IfOk result (IsListing D.tells log.old.shape after (drop (after - log.old.from) log.old.bodies)
         (R.took receiver.old receiver.new after)) }
-    ensures same { (log.new.shape ≡ log.old.shape)
-        × (log.new.stopped ≡ log.old.stopped)
-        × (log.new.batch ≡ log.old.batch)
-        × (log.new.spare ≡ log.old.spare)
-        × (log.new.from ≡ log.old.from) }
-    ensures bodies { log.new.bodies ≡ log.old.bodies }
+    ensures same { IsSameLog log.old log.new }
     ensures look { IsLook D.content D.moment D.left_since D.faults_of D.has_room log.old.disk log.new.disk result }
 {
     for count in 0..log.len() - after {

@@ -4,7 +4,7 @@ ghost use Rattle.hy_base.specs.declared.record.EntryKind.{EntryKind};
 ghost use Rattle.hy_formats.specs.LogFormat.{longest_record};
 ghost use Rattle.hy_formats.specs.EntryFormat.{entries_past};
 ghost use Rattle.hy_log.specs.View.{header_of, position_count};
-ghost use Rattle.hy_entries.specs.LogEntries.{AreFoundIn, OnlyLooks, RefusesEntry};
+ghost use Rattle.hy_entries.specs.LogEntries.{AreFoundIn, IsSameLog, OnlyLooks, RefusesEntry};
 ghost use Rattle.hy_entries.specs.Listing.{IsRead};
 
 use crate::listing::{Listing, hand_over};
@@ -49,17 +49,12 @@ pub fn read_into<D: Disk, R: Receiver>(
 ) -> Result<(), EntriesError>
     requires first { log.old.from ≤ after }
     requires last { after ≤ position_count log.old }
-    requires takes { R.takes receiver.old log.old.shape.version }
+    requires fits { R.fits receiver.old log.old.shape.version }
     ensures read { IfOk result (λ _. IsRead D.tells log.old.shape after (drop (after - log.old.from) log.old.bodies)
         (R.took receiver.old receiver.new after)) }
     ensures refused { IsTrue D.tells → IfErr result (λ error.
         RefusesEntry error (entries_past log.old.shape after (drop (after - log.old.from) log.old.bodies))) }
-    ensures same { (log.new.shape ≡ log.old.shape)
-        × (log.new.stopped ≡ log.old.stopped)
-        × (log.new.batch ≡ log.old.batch)
-        × (log.new.spare ≡ log.old.spare)
-        × (log.new.from ≡ log.old.from) }
-    ensures bodies { log.new.bodies ≡ log.old.bodies }
+    ensures same { IsSameLog log.old log.new }
     ensures look { OnlyLooks D.content D.moment D.left_since D.faults_of D.has_room log.old.disk log.new.disk result }
 {
     let Ok(mut buffer) = zeros(alloc) else {
@@ -85,12 +80,7 @@ pub fn entries_past<D: Disk>(
         (drop (after - log.old.from) log.old.bodies) entries.items) }
     ensures refused { IsTrue D.tells → IfErr result (λ error.
         RefusesEntry error (entries_past log.old.shape after (drop (after - log.old.from) log.old.bodies))) }
-    ensures same { (log.new.shape ≡ log.old.shape)
-        × (log.new.stopped ≡ log.old.stopped)
-        × (log.new.batch ≡ log.old.batch)
-        × (log.new.spare ≡ log.old.spare)
-        × (log.new.from ≡ log.old.from) }
-    ensures bodies { log.new.bodies ≡ log.old.bodies }
+    ensures same { IsSameLog log.old log.new }
     ensures look { OnlyLooks D.content D.moment D.left_since D.faults_of D.has_room log.old.disk log.new.disk result }
 {
     let mut entries = Vec::new(alloc);
@@ -98,24 +88,9 @@ pub fn entries_past<D: Disk>(
     Ok(entries)
 }
 
-/// The entries of a log past the position where it was cut, by [`entries_past`].
-pub fn entries_of<D: Disk>(alloc: Global, log: &mut PageLog<D>) -> Result<Vec<Entry>, EntriesError>
-    ensures read { IfOk result (λ entries. AreFoundIn D.tells (header_of log.old) log.old.bodies entries.items) }
-    ensures refused { IsTrue D.tells
-        → IfErr result (λ error. RefusesEntry error (entries_past log.old.shape log.old.from log.old.bodies)) }
-    ensures same { (log.new.shape ≡ log.old.shape)
-        × (log.new.stopped ≡ log.old.stopped)
-        × (log.new.batch ≡ log.old.batch)
-        × (log.new.spare ≡ log.old.spare)
-        × (log.new.from ≡ log.old.from) }
-    ensures bodies { log.new.bodies ≡ log.old.bodies }
-    ensures look { OnlyLooks D.content D.moment D.left_since D.faults_of D.has_room log.old.disk log.new.disk result }
-{
-    let from = log.from();
-    entries_past(alloc, log, from)
-}
-
-/// The same entries as [`entries_of`], each to be shared.
+/// The entries of a log past the position where it was cut, each to be shared.
+///
+/// The errors are those of [`read_into`]. The log is as it was, whatever comes of it.
 pub fn shared_entries_of<D: Disk>(
     alloc: Global,
     log: &mut PageLog<D>,
@@ -123,12 +98,7 @@ pub fn shared_entries_of<D: Disk>(
     ensures read { IfOk result (λ entries. AreFoundIn D.tells (header_of log.old) log.old.bodies entries.items) }
     ensures refused { IsTrue D.tells
         → IfErr result (λ error. RefusesEntry error (entries_past log.old.shape log.old.from log.old.bodies)) }
-    ensures same { (log.new.shape ≡ log.old.shape)
-        × (log.new.stopped ≡ log.old.stopped)
-        × (log.new.batch ≡ log.old.batch)
-        × (log.new.spare ≡ log.old.spare)
-        × (log.new.from ≡ log.old.from) }
-    ensures bodies { log.new.bodies ≡ log.old.bodies }
+    ensures same { IsSameLog log.old log.new }
     ensures look { OnlyLooks D.content D.moment D.left_since D.faults_of D.has_room log.old.disk log.new.disk result }
 {
     let from = log.from();
@@ -148,12 +118,7 @@ pub fn judge_entries<D: Disk>(alloc: Global, log: &mut PageLog<D>) -> Result<(),
         × AreFoundIn D.tells (header_of log.old) log.old.bodies entries) }
     ensures refused { IsTrue D.tells
         → IfErr result (λ error. RefusesEntry error (entries_past log.old.shape log.old.from log.old.bodies)) }
-    ensures same { (log.new.shape ≡ log.old.shape)
-        × (log.new.stopped ≡ log.old.stopped)
-        × (log.new.batch ≡ log.old.batch)
-        × (log.new.spare ≡ log.old.spare)
-        × (log.new.from ≡ log.old.from) }
-    ensures bodies { log.new.bodies ≡ log.old.bodies }
+    ensures same { IsSameLog log.old log.new }
     ensures look { OnlyLooks D.content D.moment D.left_since D.faults_of D.has_room log.old.disk log.new.disk result }
 {
     let from = log.from();

@@ -9,15 +9,15 @@ use std::alloc::{AllocError, Global};
 /// What the entries of a log are handed to, one after another.
 pub trait Receiver {
     /// It may be given the entries of a log of this version.
-    ghost takes: { Self → ℕ → Type 0 };
+    ghost fits: { Self → ℕ → Type 0 };
 
     /// What it has made since an earlier state of these entries past a position.
     ghost took: { Self → Self → ℕ → List EntryKind → Type 0 };
 
     /// Takes the entry at a position. `AllocError` where memory runs out: then it may be anything.
     fn take(&mut self, pos: Pos, entry: Entry) -> Result<(), AllocError>
-        requires { (version : ℕ) × takes self.old version × IsSoundEntry version entry }
-        ensures takes { OnOk result ((version : ℕ) → takes self.old version → takes self.new version) }
+        requires { (version : ℕ) × fits self.old version × IsSoundEntry version entry }
+        ensures fits { OnOk result ((version : ℕ) → fits self.old version → fits self.new version) }
         ensures taken { OnOk result ((start : Self) (from : ℕ) (entries : List EntryKind)
             → took start self.old from entries → pos ≡ from + length entries + 1
             → took start self.new from (entries ++ entry ∷ [])) };
@@ -30,7 +30,7 @@ pub trait Receiver {
 impl Receiver for Vec<Entry> {
     ghost use Rattle.std.proofs.Common.{sym, append-nil};
 
-    ghost takes = { λ _ _. ⊤ };
+    ghost fits = { λ _ _. ⊤ };
 
     ghost took = { λ start now from entries. now.items ≡ start.items ++ entries };
 
@@ -54,7 +54,7 @@ pub(crate) struct Shares {
 impl Receiver for Shares {
     ghost use Rattle.std.proofs.Common.{sym, append-nil};
 
-    ghost takes = { λ _ _. ⊤ };
+    ghost fits = { λ _ _. ⊤ };
 
     ghost took = { λ start now from entries. now.entries.items ≡ start.entries.items ++ entries };
 
@@ -72,7 +72,7 @@ impl Receiver for Shares {
 pub struct KeepsNone;
 
 impl Receiver for KeepsNone {
-    ghost takes = { λ _ _. ⊤ };
+    ghost fits = { λ _ _. ⊤ };
 
     ghost took = { λ _ _ _ _. ⊤ };
 

@@ -45,10 +45,7 @@ impl<'a, R: Files> FileDisk<'a, R> {
         ensures closed { IsOpen result → ⊥ }
         ensures faults { file_faults result ≡ 0 }
     {
-        FileDisk {
-            file: LateFile::new(files, path, false),
-            faults: 0,
-        }
+        FileDisk::over(files, path, false)
     }
 
     /// A device over a file that grows by more than is written: a write that ends past the file's end puts 64 KiB of zeros
@@ -59,8 +56,17 @@ impl<'a, R: Files> FileDisk<'a, R> {
         ensures closed { IsOpen result → ⊥ }
         ensures faults { file_faults result ≡ 0 }
     {
+        FileDisk::over(files, path, true)
+    }
+
+    // The one or the other.
+    fn over(files: R, path: &'a str, fills: bool) -> FileDisk<'a, R>
+        ensures path { file_path result ≡ path.now }
+        ensures closed { IsOpen result → ⊥ }
+        ensures faults { file_faults result ≡ 0 }
+    {
         FileDisk {
-            file: LateFile::new(files, path, true),
+            file: LateFile::new(files, path, fills),
             faults: 0,
         }
     }

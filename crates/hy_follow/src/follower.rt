@@ -34,7 +34,7 @@ impl From<AllocError> for FeedError {
     ghost from_gives = { λ _ error. error ≡ feeding.Memory };
 
     fn from(_: AllocError) -> Self {
-        FeedError::Memory
+        Self::Memory
     }
 }
 

@@ -34,7 +34,7 @@ use Rattle.hy_rules.specs.Recovery.{decoded_held, decoded_log, entries_with, rec
 use Rattle.hy_codec.specs.CodecLaws.{BodiesAreRead}
 use Rattle.hy_entries.specs.declared.reading.EntriesError.{EntriesError}
 use Rattle.hy_entries.specs.declared.reading.EntriesError.TheVariants as entries_error
-use Rattle.hy_entries.specs.LogEntries.{AreFoundIn, OnlyLooks, RefusesEntry}
+use Rattle.hy_entries.specs.LogEntries.{AreFoundIn, IsSameLog, OnlyLooks, RefusesEntry}
 use Rattle.hy_disk.specs.Content.{Content, Image, settled}
 use Rattle.hy_disk.specs.Moments.{LeavesOnly, OnlyReads}
 use Rattle.hy_disk.proofs.Images.{image_settled}
@@ -312,17 +312,15 @@ module _ (h : Header) (point : Checkpoint) (bodies mid_bodies : List (List ℕ))
 
 module _ {D : Type 0} (content : D → Content) (moment : D → ℕ) (left_since : D → ℕ → List ℕ → Type 0) (faults_of : D → ℕ) (has_room : D → ℕ → ℕ → Type 0) where
   pub seen_twice : {T U : Type 0} (old mid new : LogView D) (r : Result T EntriesError) (r_now : Result U EntriesError) → OnlyLooks content moment left_since faults_of has_room old.disk mid.disk r → OnlyLooks content moment left_since faults_of has_room mid.disk new.disk r_now
-      → (mid.shape ≡ old.shape) × (mid.stopped ≡ old.stopped) × (mid.batch ≡ old.batch) × (mid.spare ≡ old.spare) × (mid.from ≡ old.from)
-      → (new.shape ≡ mid.shape) × (new.stopped ≡ mid.stopped) × (new.batch ≡ mid.batch) × (new.spare ≡ mid.spare) × (new.from ≡ mid.from)
-      → mid.bodies ≡ old.bodies → new.bodies ≡ mid.bodies → IsOnlySeen content moment left_since faults_of old new
-  seen_twice old mid new r r_now first second same same_now bodies bodies_now = record {
+      → IsSameLog old mid → IsSameLog mid new → IsOnlySeen content moment left_since faults_of old new
+  seen_twice old mid new r r_now first second same same_now = record {
     same = second.same ∙ first.same;
     quiet = joined moment left_since old.disk mid.disk new.disk (Image (content old.disk)) first.quiet (subst (λ (k : Content). LeavesOnly moment left_since mid.disk new.disk (Image k)) first.same second.quiet);
     later = omega (arith, first.later, second.later);
-    shape = same_now.0 ∙ same.0;
-    from = same_now.4 ∙ same.4;
-    stopped = same_now.1 ∙ same.1;
-    bodies = bodies_now ∙ bodies;
+    shape = same_now.shape ∙ same.shape;
+    from = same_now.from ∙ same.from;
+    stopped = same_now.stopped ∙ same.stopped;
+    bodies = same_now.bodies ∙ same.bodies;
   }
 
   pub only_read : (tells : Bool) (old new : D) → OnlyReads content moment left_since faults_of old new → IsOnlyRead (over tells content moment left_since faults_of old new)

@@ -1,15 +1,10 @@
 -- The dump and the stream of a log, an entry after another.
-use Rattle.std.proofs.Common.{◌≡◌, ℕ, ◌+◌, ◌-◌, Bool, IsTrue, refl, subst, arith, List, [], ◌∷◌, ◌++◌, length, drop, sym, ap, ◌∙◌, append_assoc, append-nil}
-use Rattle.std.specs.Prelude.{flat_map, Result, Some, codes, decimal}
+use Rattle.std.proofs.Common.{◌≡◌, ℕ, ◌+◌, arith, List, [], ◌∷◌, ◌++◌, length, sym, ap, ◌∙◌, append_assoc, append-nil}
+use Rattle.std.specs.Prelude.{flat_map, Some, codes, decimal}
 use Rattle.std.specs.List.{enumerate_from}
 use Rattle.hy_base.specs.Spelling.{Text, line}
-use Rattle.hy_base.specs.declared.layout.Shape.{Shape}
 use Rattle.hy_base.specs.declared.record.EntryKind.{EntryKind}
-use Rattle.hy_formats.specs.declared.damage.BadEntry.{BadEntry}
 use Rattle.hy_formats.specs.declared.header.Header.{Header}
-use Rattle.hy_formats.specs.EntryFormat.{entries_past}
-use Rattle.hy_entries.specs.LogEntries.{AreFoundIn, RefusesEntry}
-use Rattle.hy_entries.specs.declared.reading.EntriesError.{EntriesError}
 use Rattle.hy_formats.specs.Texts.{dump_text, entry_text, from_words, shape_words}
 
 -- the text of one more item, by its number
@@ -40,18 +35,3 @@ pub whole_dump : (h asked : Header) (entries : List EntryKind) (count : ℕ) (he
     → text ≡ head ++ flat_map (entry_text asked.shape.version) (enumerate_from (asked.from + 1) entries) → text ≡ dump_text (Some h) entries
 whole_dump h asked entries count head text same first all is =
     is ∙ ap (λ t. t ++ flat_map (entry_text asked.shape.version) (enumerate_from (asked.from + 1) entries)) first ∙ ap (λ n. dump_with asked n entries) all ∙ ap (λ (x : Header). dump_with x (length entries) entries) same
-
--- the entries past the cut are those of all bodies
-pub past_cut : (s : Shape) (from at : ℕ) (bodies : List (List ℕ)) (read : Result (List EntryKind) (ℕ × BadEntry)) → at ≡ from → entries_past s at (drop (at - from) bodies) ≡ read → entries_past s from bodies ≡ read
-past_cut s from at bodies read same is =
-    let none : at - from ≡ 0 = omega (arith, same) in
-    ap (λ n. entries_past s n bodies) (sym same) ∙ ap (λ n. entries_past s at (drop n bodies)) (sym none) ∙ is
-
-pub refused_past : (tells : Bool) (s : Shape) (from at : ℕ) (bodies : List (List ℕ)) (e : EntriesError) → at ≡ from → (IsTrue tells → RefusesEntry e (entries_past s at (drop (at - from) bodies))) → IsTrue tells → RefusesEntry e (entries_past s from bodies)
-refused_past tells s from at bodies e same refused told = subst (RefusesEntry e) (sym (past_cut s from at bodies (entries_past s at (drop (at - from) bodies)) same refl)) (refused told)
-
--- so of a log that wasn't cut they are those of all bodies
-pub from_start : (tells : Bool) (s : Shape) (from : ℕ) (bodies : List (List ℕ)) (entries : List EntryKind) → from ≡ 0 → AreFoundIn tells (record { shape = s; from = 0 }) (drop (0 - from) bodies) entries → AreFoundIn tells (record { shape = s; from = from }) bodies entries
-from_start tells s from bodies entries whole found =
-    let none : 0 - from ≡ 0 = omega arith in
-    subst (λ (n : ℕ). AreFoundIn tells (record { shape = s; from = n }) bodies entries) (sym whole) (subst (λ (n : ℕ). AreFoundIn tells (record { shape = s; from = 0 }) (drop n bodies) entries) none found)

@@ -26,8 +26,8 @@ impl From<BadFrame> for Status {
 
     ghost from_gives = { λ bad status. status ≡ refusal_of bad };
 
-    fn from(bad: BadFrame) -> Status {
-        Status::Frame {
+    fn from(bad: BadFrame) -> Self {
+        Self::Frame {
             place: bad.place,
             why: bad.why,
         }
@@ -39,7 +39,7 @@ impl From<FeedError> for Status {
 
     ghost from_gives = { λ error status. status ≡ refusal_or_memory error };
 
-    fn from(error: FeedError) -> Status {
+    fn from(error: FeedError) -> Self {
         match error {
             FeedError::Memory => Status::Memory,
             FeedError::BadFrame(bad) => Status::from(bad),

@@ -4,7 +4,7 @@ ghost use Rattle.hy_base.specs.Shape.{whole_groups};
 ghost use Rattle.hy_disk.specs.Moments.{OnlyReads};
 ghost use Rattle.hy_entries.specs.LogEntries.{AreFoundIn};
 ghost use Rattle.hy_log.specs.View.{header_of};
-ghost use Rattle.hy_restart.specs.Restart.{IsSameLog};
+ghost use Rattle.hy_entries.specs.LogEntries.{IsSameLog};
 ghost use Rattle.hy_rolling.specs.Rolling.{rolled_upto};
 ghost use Rattle.hy_run.specs.Fates.{Fits, opened};
 ghost use Rattle.hy_run.specs.Over.{over};

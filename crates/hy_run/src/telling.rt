@@ -21,7 +21,7 @@ pub struct DumpText {
 impl Receiver for DumpText {
     ghost use Rattle.std.proofs.Common.{refl, sym, append-nil};
 
-    ghost takes = { λ _ _. ⊤ };
+    ghost fits = { λ _ _. ⊤ };
 
     ghost took = { λ start now from entries. (now.version ≡ start.version)
         × (now.text.items ≡ start.text.items ++ flat_map (entry_text start.version) (enumerate_from (from + 1) entries)) };
@@ -44,7 +44,7 @@ pub struct StreamBytes {
 impl Receiver for StreamBytes {
     ghost use Rattle.std.proofs.Common.{refl, sym, append-nil};
 
-    ghost takes = { λ stream version. stream.version ≡ version };
+    ghost fits = { λ stream version. stream.version ≡ version };
 
     ghost took = { λ start now from entries. (now.version ≡ start.version)
         × (now.bytes.items ≡ start.bytes.items ++ flat_map (λ e. frame (spelling start.version e)) entries) };

@@ -46,8 +46,8 @@ impl From<Why> for LineError {
 
     ghost from_gives = { λ why e. e ≡ Unfit why };
 
-    fn from(why: Why) -> LineError {
-        LineError::Unfit(why)
+    fn from(why: Why) -> Self {
+        Self::Unfit(why)
     }
 }
 
@@ -55,10 +55,10 @@ impl From<AllocError> for LineError {
     ghost use Rattle.std.specs.Prelude.{◌≡◌};
     ghost use Rattle.hy_script.specs.declared.script.LineError.TheVariants.{Memory};
 
-    ghost from_gives = { λ _ e. e ≡ Memory };
+    ghost from_gives = { λ _ error. error ≡ Memory };
 
-    fn from(_error: AllocError) -> LineError {
-        LineError::Memory
+    fn from(_: AllocError) -> Self {
+        Self::Memory
     }
 }
 

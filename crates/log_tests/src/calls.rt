@@ -34,11 +34,8 @@ pub const SHAPE: Shape = Shape {
 
 /// The same in version 2.
 pub const SHAPE_2: Shape = Shape {
-    group: 1,
-    window: 1,
-    cap: 16,
     version: 2,
-    horizon: None,
+    ..SHAPE
 };
 
 /// The device of a log of that shape with so many one-page records of the put, at most nine, all but the first behind open

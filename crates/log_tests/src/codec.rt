@@ -296,11 +296,8 @@ const PAIRS: Shape = Shape {
 
 // The same in version 2.
 const PAIRS_2: Shape = Shape {
-    group: 2,
-    window: 1,
-    cap: 8,
     version: 2,
-    horizon: None,
+    ..PAIRS
 };
 
 // Where the snapshot of these bytes is refused at a position of a log.

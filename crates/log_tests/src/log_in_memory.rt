@@ -13,29 +13,18 @@ use std::test::Fail;
 
 // Of version 3, with a horizon.
 const SHAPE_3: Shape = Shape {
-    group: 1,
-    window: 1,
-    cap: 16,
     version: 3,
     horizon: Some(2),
+    ..SHAPE
 };
 
 // The same with another horizon.
 const LONGER: Shape = Shape {
-    group: 1,
-    window: 1,
-    cap: 16,
-    version: 3,
     horizon: Some(3),
+    ..SHAPE_3
 };
 
-const SMALL: Shape = Shape {
-    group: 1,
-    window: 1,
-    cap: 1,
-    version: 1,
-    horizon: None,
-};
+const SMALL: Shape = Shape { cap: 1, ..SHAPE };
 
 #[test]
 fn one_put_takes_a_header_a_page_and_a_gate(rt: HostRuntime) -> Result<(), Fail> {

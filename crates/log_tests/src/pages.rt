@@ -21,20 +21,15 @@ const SHAPE: Shape = Shape {
 
 // The same in version 2.
 const SHAPE_2: Shape = Shape {
-    group: 1,
-    window: 1,
-    cap: 8,
     version: 2,
-    horizon: None,
+    ..SHAPE
 };
 
 // The same in version 3.
 const SHAPE_3: Shape = Shape {
-    group: 1,
-    window: 1,
-    cap: 8,
     version: 3,
     horizon: Some(258),
+    ..SHAPE
 };
 
 // The header of a log that was cut at its second position.

@@ -21,27 +21,20 @@ pub const TWO_BY_TWO: Shape = Shape {
 pub const ONE_BY_ONE: Shape = Shape {
     group: 1,
     window: 1,
-    cap: 8,
-    version: 1,
-    horizon: None,
+    ..TWO_BY_TWO
 };
 
 // The same with a horizon of one position.
 const NEAR: Shape = Shape {
-    group: 1,
-    window: 1,
-    cap: 8,
     version: 3,
     horizon: Some(1),
+    ..ONE_BY_ONE
 };
 
 // And of two.
 const FAR: Shape = Shape {
-    group: 1,
-    window: 1,
-    cap: 8,
-    version: 3,
     horizon: Some(2),
+    ..NEAR
 };
 
 // A point at position 2 without rows: a commit, and a filler.

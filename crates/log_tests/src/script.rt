@@ -92,6 +92,10 @@ fn schedule_of(alloc: Global, text: &[u8]) -> Result<(ScheduleStart, Items<Event
     }
 }
 
+fn on_line(line: u32, event: Event) -> EventLine {
+    EventLine { line, event }
+}
+
 #[test]
 fn reads_a_schedule(rt: HostRuntime) -> Result<(), Fail> {
     let text =
@@ -99,33 +103,18 @@ fn reads_a_schedule(rt: HostRuntime) -> Result<(), Fail> {
     let (start, events) = schedule_of(rt.alloc(), text)?;
     assert!(rt; start.offset == 40 && start.line == 5);
     let wanted = [
-        EventLine {
-            line: 5,
-            event: Event::Begin { client: 1 },
-        },
-        EventLine {
-            line: 7,
-            event: Event::Append { client: 1 },
-        },
-        EventLine {
-            line: 9,
-            event: Event::End { client: 1 },
-        },
-        EventLine {
-            line: 10,
-            event: Event::Refuse { client: 1 },
-        },
-        EventLine {
-            line: 11,
-            event: Event::Pad { server: 1 },
-        },
-        EventLine {
-            line: 12,
-            event: Event::Publish {
+        on_line(5, Event::Begin { client: 1 }),
+        on_line(7, Event::Append { client: 1 }),
+        on_line(9, Event::End { client: 1 }),
+        on_line(10, Event::Refuse { client: 1 }),
+        on_line(11, Event::Pad { server: 1 }),
+        on_line(
+            12,
+            Event::Publish {
                 server: 1,
                 upto: 4294967295,
             },
-        },
+        ),
     ];
     assert!(rt; events.as_slice() == wanted.as_slice());
     Ok(())

@@ -69,6 +69,21 @@ pub fn call_on<R: Threads + Wait + Sync, D: Disk + Drop + Send, G: Gate + Sync>(
     Ok(done)
 }
 
+/// Such a call over devices in memory, with a source and a sink that don't fail.
+pub fn ask_over<R: Threads + Wait + Sync>(
+    rt: &R,
+    alloc: Global,
+    asked: &[&str],
+    script: &[u8],
+    devices: (MemDisk, MemDisk, MemDisk),
+) -> Result<(Done<MemDisk>, MemSink), Fail> {
+    let mut source = MemSource::new(alloc, script, 1000, &[])?;
+    let mut sink = MemSink::new(alloc, 1000, 1000, &[])?;
+    let done = call_on(rt, alloc, asked, &mut source, &mut sink, devices, &OpenGate);
+    drop(source);
+    Ok((done?, sink))
+}
+
 /// A device that fails at its first call.
 pub fn untouched(alloc: Global) -> Result<MemDisk, Fail> {
     Ok(MemDisk::new(alloc, b"untouched", &[1])?)
@@ -106,20 +121,13 @@ pub fn ask<R: Threads + Wait + Sync, G: Gate + Sync>(
     Ok((done?, sink))
 }
 
-/// How such a call ends, and how many entries the log then has.
-pub fn ended<R: Threads + Wait + Sync, G: Gate + Sync>(
-    rt: &R,
-    alloc: Global,
-    asked: &[&str],
-    script: &[u8],
-    log: MemDisk,
-    gate: &G,
-) -> Result<(Status, Pos), Fail> {
-    let (done, sink) = ask(rt, alloc, asked, script, log, gate)?;
+/// How such a call ended, and how many entries the log then has.
+pub fn ended(call: (Done<MemDisk>, MemSink)) -> (Status, Pos) {
+    let (done, sink) = call;
     drop(sink);
     let end = (done.status, done.acked);
     drop(done);
-    Ok(end)
+    end
 }
 
 /// The device of the log.

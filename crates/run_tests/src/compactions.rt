@@ -2,12 +2,9 @@
 //! what a crash then leaves.
 ghost use Rattle.std.specs.Prelude.{◌≤◌};
 
-use crate::calls::{CallAnswer, call_on, ensured, is_answered, roomy};
+use crate::calls::{CallAnswer, ask_over, ensured, is_answered, roomy};
 use hy_disk::{Disk, Tuned};
-use hy_io::{MemSink, MemSource};
 use hy_mem::MemDisk;
-use hy_pipe::OpenGate;
-use hy_run::Done;
 use std::alloc::Global;
 use std::sync::Wait;
 use std::test::Fail;
@@ -39,21 +36,6 @@ const SPARE_FAILED: &[u8] = b"hyder: device spare\n";
 // The devices of a log, of its point and of a copy.
 type Devices = (MemDisk, MemDisk, MemDisk);
 
-// A call over three devices, with a source and a sink that don't fail.
-fn asked_of<R: Threads + Wait + Sync>(
-    rt: &R,
-    alloc: Global,
-    asked: &[&str],
-    script: &[u8],
-    devices: Devices,
-) -> Result<(Done<MemDisk>, MemSink), Fail> {
-    let mut source = MemSource::new(alloc, script, 1000, &[])?;
-    let mut sink = MemSink::new(alloc, 1000, 1000, &[])?;
-    let done = call_on(rt, alloc, asked, &mut source, &mut sink, devices, &OpenGate);
-    drop(source);
-    Ok((done?, sink))
-}
-
 // The devices after a call that has to answer this.
 fn answered<R: Threads + Wait + Sync>(
     rt: &R,
@@ -63,7 +45,7 @@ fn answered<R: Threads + Wait + Sync>(
     devices: Devices,
     wanted: CallAnswer<'_>,
 ) -> Result<Devices, Fail> {
-    let (done, sink) = asked_of(rt, alloc, asked, script, devices)?;
+    let (done, sink) = ask_over(rt, alloc, asked, script, devices)?;
     let is_told = is_answered(&done, &sink, wanted);
     drop(sink);
     let done = ensured(done, is_told, "another answer")?;
@@ -77,7 +59,7 @@ fn three_puts<R: Threads + Wait + Sync>(
     spare: MemDisk,
 ) -> Result<Devices, Fail> {
     let devices = (roomy(alloc, b"")?, roomy(alloc, b"")?, spare);
-    let (done, sink) = asked_of(rt, alloc, &["run", "--save"], THREE_PUTS, devices)?;
+    let (done, sink) = ask_over(rt, alloc, &["run", "--save"], THREE_PUTS, devices)?;
     drop(sink);
     let is_fine = done.status.number() == 0;
     let done = ensured(done, is_fine, "a run failed")?;
@@ -127,7 +109,7 @@ fn copies<R: Threads + Wait + Sync>(
     let mut spare = MemDisk::fused(alloc, b"", number)?;
     spare.room(65536, 200)?;
     let devices = three_puts(rt, alloc, spare)?;
-    let (done, sink) = asked_of(rt, alloc, &["compact"], b"", devices)?;
+    let (done, sink) = ask_over(rt, alloc, &["compact"], b"", devices)?;
     let is_fine = done.status.number() == 0;
     let is_told = is_fine || sink.taken() == SPARE_FAILED;
     drop(sink);
@@ -140,7 +122,7 @@ fn copies<R: Threads + Wait + Sync>(
 // Whether a device is unborn, or holds a log.
 fn recovers<R: Threads + Wait + Sync>(rt: &R, alloc: Global, log: MemDisk) -> Result<bool, Fail> {
     let devices = (log, roomy(alloc, b"")?, roomy(alloc, b"")?);
-    let (done, sink) = asked_of(rt, alloc, &["recover"], b"", devices)?;
+    let (done, sink) = ask_over(rt, alloc, &["recover"], b"", devices)?;
     let is_fine = done.status.number() == 0 && done.acked <= 3;
     drop(sink);
     drop(done);

@@ -2,8 +2,8 @@
 ghost use Rattle.std.specs.Prelude.{◌≤◌};
 
 use crate::calls::{
-    CallAnswer, RUN, ask, call, call_on, empty, ended, ensured, fine, is_answered, log_of, roomy,
-    told, untouched,
+    CallAnswer, RUN, ask, ask_over, call, call_on, empty, ended, ensured, fine, is_answered,
+    log_of, roomy, told, untouched,
 };
 use crate::logs::{DUMP, NO_CLIENT, NONE, ONE_PUT, one_put};
 use hy_base::Pos;
@@ -287,13 +287,8 @@ fn ask_on<R: Threads + Wait + Sync>(
     script: &[u8],
     devices: Devices,
 ) -> Result<(Done<MemDisk>, MemSink), Fail> {
-    let mut source = MemSource::new(alloc, script, 1000, &[])?;
-    let mut sink = MemSink::new(alloc, 1000, 1000, &[])?;
     let (log, points) = devices;
-    let all = (log, points, untouched(alloc)?);
-    let done = call_on(rt, alloc, asked, &mut source, &mut sink, all, &OpenGate);
-    drop(source);
-    let done = done?;
+    let (done, sink) = ask_over(rt, alloc, asked, script, (log, points, untouched(alloc)?))?;
     let is_unused = done.spare.faults() == 0;
     Ok((ensured(done, is_unused, "the spare device was used")?, sink))
 }
@@ -374,7 +369,7 @@ fn leads_there<R: Threads + Wait + Sync>(
 
 // How many entries the log on a device has.
 fn recovered<R: Threads + Wait + Sync>(rt: &R, alloc: Global, log: MemDisk) -> Result<Pos, Fail> {
-    let (_, count) = ended(rt, alloc, &["recover"], b"", log, &OpenGate)?;
+    let (_, count) = ended(ask(rt, alloc, &["recover"], b"", log, &OpenGate)?);
     Ok(count)
 }
 
@@ -472,7 +467,7 @@ fn each_write_and_sync_fails(rt: HostRuntime) -> Result<(), Fail> {
         assert!(rt; k > 1 || log.bytes().is_empty());
         drop(log);
     }
-    let (status, _) = ended(&rt, alloc, RUN, ONE_PUT, failing(alloc, 12)?, &OpenGate)?;
+    let (status, _) = ended(ask(&rt, alloc, RUN, ONE_PUT, failing(alloc, 12)?, &OpenGate)?);
     assert_eq!(rt; status, Status::Fine);
     Ok(())
 }
@@ -538,7 +533,7 @@ fn crashed<R: Threads + Wait + Sync>(
     drop(sink);
     let log = ensured(log_of(done), is_told, "the device failed")?;
     let log = log.stop(pattern);
-    let (status, left) = ended(rt, alloc, &["check"], b"", log, &OpenGate)?;
+    let (status, left) = ended(ask(rt, alloc, &["check"], b"", log, &OpenGate)?);
     let is_fine = status == Status::Fine;
     ensured((acked, left), is_fine, "a log that can't be checked")
 }

@@ -222,38 +222,18 @@ pub const SHAPE: Shape = Shape {
     horizon: None,
 };
 
-const PAIRS: Shape = Shape {
-    group: 2,
-    window: 1,
-    cap: 8,
-    version: 1,
-    horizon: None,
-};
+const PAIRS: Shape = Shape { group: 2, ..SHAPE };
 
-const FOURS: Shape = Shape {
-    group: 4,
-    window: 1,
-    cap: 8,
-    version: 1,
-    horizon: None,
-};
+const FOURS: Shape = Shape { group: 4, ..SHAPE };
 
 /// Groups of five.
 pub const FIVES: Shape = Shape {
     group: 5,
-    window: 1,
     cap: 10,
-    version: 1,
-    horizon: None,
+    ..SHAPE
 };
 
-const SMALL: Shape = Shape {
-    group: 1,
-    window: 1,
-    cap: 1,
-    version: 1,
-    horizon: None,
-};
+const SMALL: Shape = Shape { cap: 1, ..SHAPE };
 
 /// The client's next program begins, and puts a byte.
 pub fn put_once<D: Disk, B: Since, R: Wait>(

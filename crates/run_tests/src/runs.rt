@@ -1,5 +1,5 @@
 //! Calls of `run` and of `recover` whose ends don't fail, or fail once.
-use crate::calls::{RUN, call, empty, ended, fine, roomy, told};
+use crate::calls::{RUN, ask, call, empty, ended, fine, roomy, told};
 use crate::logs::{DUMP, ONE_PUT, one_put};
 use hy_io::{MemSink, MemSource};
 use hy_mem::MemDisk;
@@ -108,7 +108,7 @@ fn two_clients_run_at_one_time(rt: HostRuntime) -> Result<(), Fail> {
         started: AtomicU32::new(0),
         gave_up: AtomicU32::new(0),
     };
-    let (status, acked) = ended(&rt, alloc, RUN, script, empty(alloc)?, &gate)?;
+    let (status, acked) = ended(ask(&rt, alloc, RUN, script, empty(alloc)?, &gate)?);
     assert!(rt; status == Status::Fine && acked == 2);
     assert_eq!(rt; gate.started.load(Ordering::SeqCst), 2);
     assert_eq!(rt; gate.gave_up.load(Ordering::SeqCst), 0);

@@ -40,7 +40,7 @@ returns-in_err-rest-clause-refused g c =
     let pf_now = disk.faults_of c.further_point.new.points in
     err_as c.from_residual-in_err-rest.result (entries_fault e) (IsPlanFault disk.tells h log.bodies bytes lf lf_now pf pf_now) c.from_residual-in_err-rest.ensures.1
     (rest_plan_fault c.bodies_are_read.ensures disk.tells h log.bodies bytes found.0 point plan lf (disk.faults_of mid.disk) lf_now pf pf_now e
-    (λ told. refused_again h point log.bodies mid.bodies mid.shape mid.from c.base.result same.0 same.4 c.judge_entries.ensures.bodies c.base.ensures.base e (c.in_err-rest.ensures.refused told)) c.judge_entries.ensures.look.later (λ is. c.in_err-rest.ensures.look.device (ap Err is)))
+    (λ told. refused_again h point log.bodies mid.bodies mid.shape mid.from c.base.result same.shape same.from same.bodies c.base.ensures.base e (c.in_err-rest.ensures.refused told)) c.judge_entries.ensures.look.later (λ is. c.in_err-rest.ensures.look.device (ap Err is)))
 
 pub returns-in_err-rest-clause-comes_first : goal.returns-in_err-rest-clause-comes_first
 returns-in_err-rest-clause-comes_first g c =
@@ -54,7 +54,7 @@ returns-in_err-rest-clause-comes_first g c =
 pub returns-in_err-rest-clause-seen : goal.returns-in_err-rest-clause-seen
 returns-in_err-rest-clause-seen g c =
     let disk = g.D.Disk in
-    seen_twice disk.content disk.moment disk.left_since disk.faults_of disk.has_room c.args.log.now c.judge_entries.new.log c.entries_past.new.log c.judge_entries.result c.entries_past.result c.judge_entries.ensures.look c.entries_past.ensures.look c.judge_entries.ensures.same c.entries_past.ensures.same c.judge_entries.ensures.bodies c.entries_past.ensures.bodies
+    seen_twice disk.content disk.moment disk.left_since disk.faults_of disk.has_room c.args.log.now c.judge_entries.new.log c.entries_past.new.log c.judge_entries.result c.entries_past.result c.judge_entries.ensures.look c.entries_past.ensures.look c.judge_entries.ensures.same c.entries_past.ensures.same
 
 pub returns-clause-plan : goal.returns-clause-plan
 returns-clause-plan g c =
@@ -70,10 +70,10 @@ returns-clause-plan g c =
     let rest = c.in_ok-rest.rest.items in (
       found.0,
       plan,
-      rest_read c.bodies_are_read.ensures disk.tells h log.bodies bytes found.0 point plan rest (found_again h point log.bodies mid.bodies mid.shape mid.from c.base.result same.0 same.4 c.judge_entries.ensures.bodies c.base.ensures.base disk.tells rest c.in_ok-rest.ensures.read),
+      rest_read c.bodies_are_read.ensures disk.tells h log.bodies bytes found.0 point plan rest (found_again h point log.bodies mid.bodies mid.shape mid.from c.base.result same.shape same.from same.bodies c.base.ensures.base disk.tells rest c.in_ok-rest.ensures.read),
     )
 
 pub returns-clause-seen : goal.returns-clause-seen
 returns-clause-seen g c =
     let disk = g.D.Disk in
-    seen_twice disk.content disk.moment disk.left_since disk.faults_of disk.has_room c.args.log.now c.judge_entries.new.log c.entries_past.new.log c.judge_entries.result c.entries_past.result c.judge_entries.ensures.look c.entries_past.ensures.look c.judge_entries.ensures.same c.entries_past.ensures.same c.judge_entries.ensures.bodies c.entries_past.ensures.bodies
+    seen_twice disk.content disk.moment disk.left_since disk.faults_of disk.has_room c.args.log.now c.judge_entries.new.log c.entries_past.new.log c.judge_entries.result c.entries_past.result c.judge_entries.ensures.look c.entries_past.ensures.look c.judge_entries.ensures.same c.entries_past.ensures.same

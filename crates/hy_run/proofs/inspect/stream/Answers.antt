@@ -7,7 +7,7 @@ use Rattle.hy_formats.specs.StreamFormat.{frame, stream_bytes, stream_head}
 use Rattle.hy_log.specs.View.{header_of}
 use Rattle.hy_run.specs.declared.inspect.Report.TheVariants.{Stream}
 use Rattle.hy_run.proofs.Inspecting.{audit_first_as, fault_told_as, streamed_log}
-use Rattle.hy_run.proofs.Dumping.{from_start, refused_past}
+use Rattle.hy_entries.proofs.PastCut.{from_start, refused_past}
 use Rattle.hy_run.proofs.inspect.stream.Goals as goal
 
 pub returns-clause-text : goal.returns-clause-text
