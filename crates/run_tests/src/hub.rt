@@ -93,8 +93,13 @@ pub fn hub_on<D: Disk + Drop, B: Since>(
     ensures parts { IfOk result (λ r. (r.0.parts ≡ hub_parts) × (r.1.parts ≡ hub_parts)) }
 {
     let homes = homes(alloc)?;
-    let start = Roller::new(alloc, shape)?;
-    match Hub::new(alloc, log, Vec::new(alloc), start, 2, homes, 1) {
+    let setup = Setup {
+        start: Roller::new(alloc, shape)?,
+        servers: 2,
+        homes,
+        keeps: 1,
+    };
+    match Hub::new(alloc, log, Vec::new(alloc), setup) {
         Ok(made) => Ok(made),
         Err(_) => Err(Fail::from(AllocError)),
     }
