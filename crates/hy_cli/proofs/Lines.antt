@@ -9,6 +9,7 @@ use Rattle.clap.specs.Takes.{takes, walk_passes}
 use Rattle.clap.proofs.WalkLemmas.{walk_stopped}
 use Rattle.std.proofs.lemmas.Slice.Eq.{bytes_eq-Decides}
 use Rattle.hy_base.specs.Spelling.{Text}
+use Rattle.hy_base.specs.Limits.{most_threads, largest_load}
 use Rattle.hy_cli.specs.CommandLine.{CliCommand, CliOption, Given, check_command, choices_given, compact_command, follow_command, command_line, command_named, commands, given_all, line_of, load_command, point_option, recover_command, run_command, save_option, seed_option, ship_command, sim_command, size_option, threads_option}
 use Rattle.hy_cli.specs.Matches.{choices_found, hyder_app, line_found, meant}
 use Rattle.hy_cli.specs.declared.line.Line.{Line}
@@ -140,23 +141,23 @@ AreTableRows (c ∷ cs) = IsTableRow c × AreTableRows cs
 run_means : (g : Given) → AreRight run_command.options g → run_command.line (choices_found (rows_of_all run_command.options g)) ≡ run_command.line (choices_given g)
 run_means g right =
     let rows = rows_of_all run_command.options g in
-    let threads = number_same run_command.options (codes "threads") 1 16 2 threads_option g rows right refl refl refl refl in
+    let threads = number_same run_command.options (codes "threads") 1 most_threads 2 threads_option g rows right refl refl refl refl in
     let point = flag_same run_command.options (codes "point") point_option _ g rows right refl refl refl refl refl in
     let save = flag_same run_command.options (codes "save") save_option _ g rows right refl refl refl refl refl in
     λ i. Run (threads i) (point i) (save i)
 
 sim_means : (g : Given) → AreRight sim_command.options g → sim_command.line (choices_found (rows_of_all sim_command.options g)) ≡ sim_command.line (choices_given g)
-sim_means g right = ap (λ n. Sim n) (number_same sim_command.options (codes "threads") 1 16 2 threads_option g (rows_of_all sim_command.options g) right refl refl refl refl)
+sim_means g right = ap (λ n. Sim n) (number_same sim_command.options (codes "threads") 1 most_threads 2 threads_option g (rows_of_all sim_command.options g) right refl refl refl refl)
 
 follow_means : (g : Given) → AreRight follow_command.options g → follow_command.line (choices_found (rows_of_all follow_command.options g)) ≡ follow_command.line (choices_given g)
-follow_means g right = ap (λ n. Follow n) (number_same follow_command.options (codes "threads") 1 16 2 threads_option g (rows_of_all follow_command.options g) right refl refl refl refl)
+follow_means g right = ap (λ n. Follow n) (number_same follow_command.options (codes "threads") 1 most_threads 2 threads_option g (rows_of_all follow_command.options g) right refl refl refl refl)
 
 load_means : (g : Given) → AreRight load_command.options g → load_command.line (choices_found (rows_of_all load_command.options g)) ≡ load_command.line (choices_given g)
 load_means g right =
     let rows = rows_of_all load_command.options g in
     let seed = number_same load_command.options (codes "seed") 0 18446744073709551615 0 seed_option g rows right refl refl refl refl in
-    let size = number_same load_command.options (codes "size") 1 80000 1 size_option g rows right refl refl refl refl in
-    let threads = number_same load_command.options (codes "threads") 1 16 2 threads_option g rows right refl refl refl refl in
+    let size = number_same load_command.options (codes "size") 1 largest_load 1 size_option g rows right refl refl refl refl in
+    let threads = number_same load_command.options (codes "threads") 1 most_threads 2 threads_option g rows right refl refl refl refl in
     λ i. Load (seed i) (size i) (threads i)
 
 all_rows : AreTableRows commands

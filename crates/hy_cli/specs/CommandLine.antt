@@ -8,7 +8,7 @@ use Rattle.std.specs.Option.{option_map_or}
 use Rattle.std.specs.Str.Parse.{digits_value}
 use Rattle.hy_base.specs.Spelling.{Text, number_of}
 use Rattle.hy_base.specs.Shape.{is_within}
-use Rattle.hy_base.specs.Limits.{IsThreadCount, IsLoadSize}
+use Rattle.hy_base.specs.Limits.{IsThreadCount, IsLoadSize, largest_load, most_threads}
 use Rattle.hy_cli.specs.declared.line.Line.{Line}
 use Rattle.hy_cli.specs.declared.line.Line.TheVariants.{Run, Sim, Recover, Check, Compact, Ship, Follow, Load}
 
@@ -55,7 +55,7 @@ pub record CliCommand : Type 0 where
   pub line : Choices → Line
 
 abbrev pub threads_option : CliOption
-threads_option = record { name = codes "threads"; kind = number 1 16; needed = false }
+threads_option = record { name = codes "threads"; kind = number 1 most_threads; needed = false }
 
 abbrev pub point_option : CliOption
 point_option = record { name = codes "point"; kind = flag; needed = false }
@@ -67,7 +67,7 @@ abbrev pub seed_option : CliOption
 seed_option = record { name = codes "seed"; kind = number 0 18446744073709551615; needed = true }
 
 abbrev pub size_option : CliOption
-size_option = record { name = codes "size"; kind = number 1 80000; needed = true }
+size_option = record { name = codes "size"; kind = number 1 largest_load; needed = true }
 
 abbrev pub run_command : CliCommand
 run_command = record {

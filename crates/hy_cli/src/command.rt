@@ -7,6 +7,7 @@ ghost use Rattle.clap.specs.Words.{app_of, rule_of};
 ghost use Rattle.clap.specs.declared.builder.command.Command.TheViews.{out-Command};
 
 use clap::{Arg, ArgAction, Command};
+use hy_base::{LARGEST_LOAD, MOST_THREADS};
 use std::alloc::{AllocError, Global};
 
 fn threads_arg<'a>(alloc: Global) -> Arg<'a>
@@ -16,7 +17,7 @@ fn threads_arg<'a>(alloc: Global) -> Arg<'a>
     Arg::new(alloc, "threads")
         .long("threads")
         .action(ArgAction::Set)
-        .value_parser(clap::value_parser!(u64).range(1..=16))
+        .value_parser(clap::value_parser!(u64).range(1..=MOST_THREADS as i64))
 }
 
 fn seed_arg<'a>(alloc: Global) -> Arg<'a>
@@ -38,7 +39,7 @@ fn size_arg<'a>(alloc: Global) -> Arg<'a>
         .long("size")
         .action(ArgAction::Set)
         .required(true)
-        .value_parser(clap::value_parser!(u64).range(1..=80000))
+        .value_parser(clap::value_parser!(u64).range(1..=LARGEST_LOAD as i64))
 }
 
 fn flag_arg<'a>(alloc: Global, name: &'a str) -> Arg<'a>

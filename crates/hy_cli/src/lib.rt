@@ -12,7 +12,9 @@ mod laws;
 mod line;
 mod matched;
 mod parsing;
+mod words;
 
 pub use laws::{line_asks_for_itself, words_ask_for_one, words_ask_or_are_refused};
 pub use line::{CliError, Line};
 pub use parsing::parse;
+pub use words::Words;

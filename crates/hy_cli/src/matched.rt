@@ -1,7 +1,6 @@
 //! What the matches of `clap` say.
 ghost use Rattle.std.specs.Prelude.{◌≡◌, Some, codes, false, is_some, true};
-ghost use Rattle.hy_base.specs.Shape.{IsWithin};
-ghost use Rattle.hy_base.specs.Limits.{IsThreadCount};
+ghost use Rattle.hy_base.specs.Limits.{IsLoadSize, IsThreadCount};
 ghost use Rattle.hy_cli.specs.CommandLine.{IsInOptionRange, command_named, command_word, flag, seed_option, size_option};
 ghost use Rattle.hy_cli.specs.CommandLine.{threads_option};
 ghost use Rattle.hy_cli.specs.Matches.{choices_found, has_accepted, is_accepted, line_found};
@@ -30,7 +29,7 @@ fn seed_of(found: &ArgMatches<'_>) -> u64
 /// The number of programs.
 fn size_of(found: &ArgMatches<'_>) -> u32
     requires { is_accepted (rows_of (found_of found.now)) size_option ≡ true }
-    ensures range { IsWithin 1 80000 result }
+    ensures range { IsLoadSize result }
     ensures value { result ≡ (choices_found (rows_of (found_of found.now))).number_or 1 (codes "size") }
 {
     found.get_one::<u64>("size").unwrap_or(1) as u32

@@ -6,9 +6,8 @@ ghost use Rattle.hy_cli.specs.declared.line.Line.{Line};
 
 use crate::command::hyder_command;
 use crate::matched::line_from;
-use crate::{CliError, Line};
+use crate::{CliError, Line, Words};
 use clap::error::ErrorKind;
-use hy_base::Words;
 use std::alloc::{AllocError, Global};
 
 /// What the words ask for, by the command that the word after the program's name is.

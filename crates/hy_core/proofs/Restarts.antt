@@ -20,6 +20,7 @@ use Rattle.hy_base.specs.Shape.{whole_groups}
 use Rattle.hy_base.specs.Log.{IsLawful}
 use Rattle.hy_base.specs.Lists.{nth, change_nth}
 use Rattle.hy_base.specs.Script.{Workload, IsScript}
+use Rattle.hy_base.specs.Limits.{most_clients}
 use Rattle.hy_rolling.specs.Rolling.{Roll, rolled_upto}
 use Rattle.hy_rules.specs.Moves.{Setting, State, appended, is_kept, surviving, missing, after, is_begun, abandoned, at_next_program, restarted}
 use Rattle.hy_rules.specs.Runs.{Ended, ByStop, ByEntryAt, added, own_entry, ended, ended_by_append, setting_of, snap_of, begun_snap, lost_by_stop}
@@ -319,5 +320,5 @@ client_states_fit_by script log number (c ∷ cs) (x ∷ xs) are few = (omega (a
 pub client_states_fit : (script : Workload) (h : Holding) → IsScript script → IsHolding script h → AllByRecursion ClientStateFits h.client_states
 client_states_fit script h script_is is = client_states_fit_by script h.log 1 script.clients h.client_states is.client_states (few_at script.servers script.clients script_is.clients)
 
-pub client_states_few : (script : Workload) (h : Holding) → length script.clients ≤ 128 → IsHolding script h → length h.client_states ≤ 128
+pub client_states_few : (script : Workload) (h : Holding) → length script.clients ≤ most_clients → IsHolding script h → length h.client_states ≤ most_clients
 client_states_few script h few is = omega (arith, few, as_many script h.log 1 script.clients h.client_states is.client_states)

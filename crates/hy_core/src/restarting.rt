@@ -9,6 +9,7 @@ ghost use Rattle.hy_rules.specs.Moves.{is_kept};
 ghost use Rattle.hy_memlog.specs.Pages.{IsStop};
 ghost use Rattle.hy_core.specs.CoreParts.{IsHolding, AreRestarted, HasPlaces, ClientStateFits, HasRestarted};
 ghost use Rattle.hy_core.specs.CoreParts.{abandoned_client_state, abandoned_told, kept_by, struck, broken, log_held};
+ghost use Rattle.hy_base.specs.Limits.{most_clients};
 
 use crate::earlier::clear_all;
 use crate::parts::{ClientState, EndedProgram, Parts, roller_of};
@@ -158,7 +159,7 @@ fn abandon(alloc: Global, client_state: &mut ClientState, told: &mut Vec<EndedPr
 /// is armed.
 pub(crate) fn settle(alloc: Global, core: &mut Parts, rollers: Vec<Roller>)
     requires places { vec_len core.old.told + length core.old.client_states.items ≤ vec_capacity core.old.told }
-    requires few { length core.old.client_states.items ≤ 128 }
+    requires few { length core.old.client_states.items ≤ most_clients }
     requires fit { AllByRecursion ClientStateFits core.old.client_states.items }
     ensures { HasRestarted (log_held core.old) (log_held core.new) rollers.items }
 {

@@ -6,7 +6,7 @@ use Rattle.std.proofs.lemmas.List.{take-append-le, drop-append-le}
 use Rattle.hy_base.specs.declared.layout.Shape.{Shape}
 use Rattle.hy_base.specs.declared.record.EntryKind.{EntryKind}
 use Rattle.hy_base.specs.Log.{HasLawfulSnap}
-use Rattle.hy_base.specs.Shape.{newest_version, has_horizon, is_horizon, is_within, IsWithin, shape_fault, IsGoodShape, tells_isolation}
+use Rattle.hy_base.specs.Shape.{newest_version, has_horizon, is_horizon, is_within, IsWithin, shape_fault, IsGoodShape, tells_isolation, largest_group, largest_window, largest_cap}
 use Rattle.hy_base.proofs.ShapeLemmas.{is_within-true, horizon_good}
 use Rattle.hy_codec.proofs.Spellings.{snap_is_lawful}
 use Rattle.hy_formats.specs.declared.damage.BadEntry.{BadEntry}
@@ -32,17 +32,17 @@ met false r e h = absurd (cc)
 
 passes_good : (s : Shape) → is_ok (shape_fault s) ≡ true → IsGoodShape s
 passes_good s h =
-    let a = met (is_within 1 8 s.group) _ _ h in
-    let b = met (is_within 1 64 s.window) _ _ a.1 in
-    let c = met (is_within s.group 2147483648 s.cap && (s.cap % s.group == 0)) _ _ b.1 in
+    let a = met (is_within 1 largest_group s.group) _ _ h in
+    let b = met (is_within 1 largest_window s.window) _ _ a.1 in
+    let c = met (is_within s.group largest_cap s.cap && (s.cap % s.group == 0)) _ _ b.1 in
     let d = met (is_within 1 newest_version s.version) _ _ c.1 in
     let e = met (is_horizon s s.horizon) (Ok tt) _ d.1 in
-    let cap = and_parts (is_within s.group 2147483648 s.cap) (s.cap % s.group == 0) c.0 in
+    let cap = and_parts (is_within s.group largest_cap s.cap) (s.cap % s.group == 0) c.0 in
     let horizon = horizon_good s e.0 in
     record {
-      group = is_within-true 1 8 s.group a.0;
-      window = is_within-true 1 64 s.window b.0;
-      cap = is_within-true s.group 2147483648 s.cap cap.0;
+      group = is_within-true 1 largest_group s.group a.0;
+      window = is_within-true 1 largest_window s.window b.0;
+      cap = is_within-true s.group largest_cap s.cap cap.0;
       whole_groups = eqb-true (s.cap % s.group) 0 cap.1;
       version = is_within-true 1 newest_version s.version d.0;
       horizon = horizon.0;

@@ -10,7 +10,7 @@ use Rattle.hy_base.specs.declared.layout.Shape.{Shape}
 use Rattle.hy_base.specs.declared.record.EntryKind.{EntryKind}
 use Rattle.hy_base.specs.Entry.{IsSoundEntry}
 use Rattle.hy_base.specs.Log.{HasLawfulSnap, HaveLawfulSnaps}
-use Rattle.hy_base.specs.Shape.{newest_version, has_horizon, horizon_told, tells_isolation, is_horizon, is_within, IsWithin, shape_fault, IsGoodShape}
+use Rattle.hy_base.specs.Shape.{newest_version, has_horizon, horizon_told, tells_isolation, is_horizon, is_within, IsWithin, shape_fault, IsGoodShape, largest_group, largest_window, largest_cap}
 use Rattle.hy_base.proofs.ShapeLemmas.{IsWithin-test}
 use Rattle.hy_codec.proofs.Spellings.{spelled_at, spelling_is_body}
 use Rattle.hy_formats.specs.EntryFormat.{spelling}
@@ -22,23 +22,23 @@ use Rattle.hy_follow.proofs.Streams.{taken-append, waiting_at, first_taken, some
 
 -- ---- the header
 
-horizon_passes : (s : Shape) (h : Option ℕ) → IfSome h (IsWithin (s.group * s.window) 2147483648) → is_some h ≡ has_horizon s.version → is_horizon s h ≡ true
+horizon_passes : (s : Shape) (h : Option ℕ) → IfSome h (IsWithin (s.group * s.window) largest_cap) → is_some h ≡ has_horizon s.version → is_horizon s h ≡ true
 horizon_passes s None is versioned = ap not (sym versioned)
-horizon_passes s (Some h) is versioned = and_from (has_horizon s.version) (is_within (s.group * s.window) 2147483648 h) (sym versioned) (IsWithin-test (s.group * s.window) 2147483648 h is)
+horizon_passes s (Some h) is versioned = and_from (has_horizon s.version) (is_within (s.group * s.window) largest_cap h) (sym versioned) (IsWithin-test (s.group * s.window) largest_cap h is)
 
 good_passes : (s : Shape) → IsGoodShape s → is_ok (shape_fault s) ≡ true
 good_passes s good =
-    let cap = and_from (is_within s.group 2147483648 s.cap) (s.cap % s.group == 0) (IsWithin-test s.group 2147483648 s.cap good.cap) (eq-eqb (s.cap % s.group) 0 good.whole_groups) in
-    ap is_ok (cond-true (is_within 1 8 s.group) _ _ (IsWithin-test 1 8 s.group good.group) ∙ cond-true (is_within 1 64 s.window) _ _ (IsWithin-test 1 64 s.window good.window)
-    ∙ cond-true (is_within s.group 2147483648 s.cap && (s.cap % s.group == 0)) _ _ cap ∙ cond-true (is_within 1 newest_version s.version) _ _ (IsWithin-test 1 newest_version s.version good.version)
+    let cap = and_from (is_within s.group largest_cap s.cap) (s.cap % s.group == 0) (IsWithin-test s.group largest_cap s.cap good.cap) (eq-eqb (s.cap % s.group) 0 good.whole_groups) in
+    ap is_ok (cond-true (is_within 1 largest_group s.group) _ _ (IsWithin-test 1 largest_group s.group good.group) ∙ cond-true (is_within 1 largest_window s.window) _ _ (IsWithin-test 1 largest_window s.window good.window)
+    ∙ cond-true (is_within s.group largest_cap s.cap && (s.cap % s.group == 0)) _ _ cap ∙ cond-true (is_within 1 newest_version s.version) _ _ (IsWithin-test 1 newest_version s.version good.version)
     ∙ cond-true (is_horizon s s.horizon) (Ok tt) _ (horizon_passes s s.horizon good.horizon good.versioned))
 
-horizon_read : (version : ℕ) (h : Option ℕ) → IfSome h (λ n. n ≤ 2147483648) → is_some h ≡ has_horizon version
+horizon_read : (version : ℕ) (h : Option ℕ) → IfSome h (λ n. n ≤ largest_cap) → is_some h ≡ has_horizon version
     → (if has_horizon version then Some (from_le_bytes w32 (to_le_bytes w32 (horizon_told h))) else None) ≡ h
 horizon_read version None fits versioned = cond-false (has_horizon version) _ _ (sym versioned)
 horizon_read version (Some h) fits versioned = cond-true (has_horizon version) _ _ (sym versioned) ∙ ap Some (from_le_bytes-to_le_bytes_4 h (omega (arith, fits)))
 
-horizon_most : (low : ℕ) (h : Option ℕ) → IfSome h (IsWithin low 2147483648) → IfSome h (λ n. n ≤ 2147483648)
+horizon_most : (low : ℕ) (h : Option ℕ) → IfSome h (IsWithin low largest_cap) → IfSome h (λ n. n ≤ largest_cap)
 horizon_most low None is = tt
 horizon_most low (Some h) is = is.at_most
 

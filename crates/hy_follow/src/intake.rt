@@ -1,6 +1,6 @@
 //! What a follower holds, and how it takes bytes.
 ghost use Rattle.std.specs.Prelude.{◌≡◌, ◌+◌, ◌<◌, ◌≤◌, [], ◌++◌, length, take, drop, nat_lt, IfOk, OnOk, OnErr, None};
-ghost use Rattle.hy_base.specs.Shape.{IsGoodShape, whole_groups};
+ghost use Rattle.hy_base.specs.Shape.{IsGoodShape, largest_cap, whole_groups};
 ghost use Rattle.hy_formats.specs.EntryFormat.{decoded_at};
 ghost use Rattle.hy_formats.specs.StreamFormat.{head_judged, length_fault, told_length};
 ghost use Rattle.hy_follow.specs.Following.{nothing_followed, upto, shape_of, came_count, end_of};
@@ -153,7 +153,7 @@ impl Intake {
     pub fn count(&self) -> Pos
         requires { IsSized self.now }
         ensures count { result ≡ came_count self.now }
-        ensures most { result ≤ 2147483648 }
+        ensures most { result ≤ largest_cap }
     {
         let at = self.at();
         at + self.rest.len() as Pos

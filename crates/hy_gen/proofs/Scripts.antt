@@ -12,6 +12,7 @@ use Rattle.hy_base.specs.Entry.{is_told}
 use Rattle.hy_base.specs.declared.layout.Shape.{Shape}
 use Rattle.hy_base.specs.declared.workload.Mode.{Mode}
 use Rattle.hy_base.specs.Script.{AreTold, AskForGroups, IsAsOf, IsScript, IsClient, IsProgram, IsCommand, FitsTables, ClientFitsTables, command_count, home_of, mode_of}
+use Rattle.hy_base.specs.Limits.{largest_load}
 use Rattle.hy_base.proofs.TableLemmas.{no_table_key}
 use Rattle.hy_gen.specs.declared.drawing.Draw.{Draw}
 use Rattle.hy_gen.specs.Draws.{draw_of}
@@ -54,7 +55,7 @@ All-range : (P : ℕ → Type 0) (a n : ℕ) → ((k : ℕ) → a ≤ k → k < 
 All-range P a zero each = All-nil P
 All-range P a (suc n) each = All-cons P a (range_with_len (a + 1) n) (each a (omega arith) (omega arith)) (All-range P (a + 1) n (λ k least most. each k (omega (arith, least)) (omega (arith, most))))
 
-client_good : (seed size number : ℕ) → size ≤ 80000 → 1 ≤ number → number < 9 → IsClient 4 (client_of seed size number)
+client_good : (seed size number : ℕ) → size ≤ largest_load → 1 ≤ number → number < 9 → IsClient 4 (client_of seed size number)
 client_good seed size number few least most = record {
   server = record { at_least = omega (arith, least); at_most = omega (arith, least) };
   count = let all : length (programs_of seed size number) ≡ program_count size number = length-map-range_with_len (λ turn. program_numbered seed (8 * turn + (number - 1))) 0 (program_count size number) in omega (arith, all, few, least);
@@ -62,7 +63,7 @@ client_good seed size number few least most = record {
       (All-range (λ turn. IsProgram (program_numbered seed (8 * turn + (number - 1)))) 0 (program_count size number) (λ turn from upto. program_good seed (8 * turn + (number - 1)) (omega (arith, upto, few, most, least))));
 }
 
-client_fits : (seed size number : ℕ) → size ≤ 80000 → 1 ≤ number → number < 9 → ClientFitsTables 0 (client_of seed size number)
+client_fits : (seed size number : ℕ) → size ≤ largest_load → 1 ≤ number → number < 9 → ClientFitsTables 0 (client_of seed size number)
 client_fits seed size number few least most =
     All-map (λ p. All (FitsTables 0) p.commands) (λ turn. program_numbered seed (8 * turn + (number - 1))) (range_with_len 0 (program_count size number))
     (All-range (λ turn. All (FitsTables 0) (program_numbered seed (8 * turn + (number - 1))).commands) 0 (program_count size number)
@@ -85,7 +86,7 @@ none_ask s seed size (number ∷ numbers) = (nothing_asked s seed number (range_
 client_told : (seed size number : ℕ) → AreTold 1 (home_of (client_of seed size number)).programs
 client_told seed size number = programs_told seed number (range_with_len 0 (program_count size number))
 
-pub script_good : (seed size : ℕ) → 1 ≤ size → size ≤ 80000 → IsScript (script_of seed size)
+pub script_good : (seed size : ℕ) → 1 ≤ size → size ≤ largest_load → IsScript (script_of seed size)
 script_good seed size least few = record {
   shape = record {
     group = record { at_least = omega arith; at_most = omega arith };

@@ -7,6 +7,18 @@ use Rattle.std.specs.Prelude.{◌++◌, Option, Some, None, slice_get, length, n
 use Rattle.std.specs.List.{range_with_len, flat_map}
 use Rattle.hy_base.specs.declared.workload.Event.{Event}
 use Rattle.hy_base.specs.declared.workload.Event.TheVariants.{Begin, Append, End, Pad, Publish}
+use Rattle.hy_base.specs.Shape.{IsWithin}
+
+-- a client of a load, and one of its servers, by its number
+abbrev pub IsLoadClient : ℕ → Type 0
+IsLoadClient n = IsWithin 1 8 n
+
+abbrev pub IsLoadServer : ℕ → Type 0
+IsLoadServer n = IsWithin 1 4 n
+
+-- more rounds than any load has
+abbrev pub round_limit : ℕ
+round_limit = 100000
 
 -- how many rounds a program on a server takes
 abbrev pub period : ℕ → ℕ

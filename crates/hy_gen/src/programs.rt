@@ -1,8 +1,8 @@
 //! The programs of a load.
 ghost use Rattle.std.specs.Prelude.{◌≡◌, [], ◌+◌, ◌*◌, ◌≤◌, ◌<◌, ◌∷◌, IfOk};
-ghost use Rattle.hy_base.specs.Shape.{IsWithin};
-ghost use Rattle.hy_gen.specs.Rounds.{home};
+ghost use Rattle.hy_gen.specs.Rounds.{IsLoadClient, IsLoadServer, home};
 ghost use Rattle.hy_gen.specs.Load.{value_numbered, commands_of, programs_of, client_of, program_count};
+ghost use Rattle.hy_base.specs.Limits.{largest_load};
 
 use crate::drawing::{Draw, generator_at, next_draw};
 use hy_base::{Client, Command, Commands, Isolation, Items, Program, Programs, Value, ValueError};
@@ -23,9 +23,9 @@ pub const TABLES: u8 = 0;
 
 /// The server of a client.
 pub fn home(client: u8) -> u8
-    requires { IsWithin 1 8 client }
+    requires { IsLoadClient client }
     ensures home { result ≡ home client }
-    ensures within { IsWithin 1 4 result }
+    ensures within { IsLoadServer result }
 {
     (client - 1) % SERVERS + 1
 }
@@ -84,8 +84,8 @@ fn commands(alloc: Global, number: u32, draw: Draw) -> Result<Commands, AllocErr
 
 /// How many of so many programs a client has.
 pub fn program_count(size: u32, client: u8) -> u32
-    requires client { IsWithin 1 8 client }
-    requires size { size ≤ 80000 }
+    requires client { IsLoadClient client }
+    requires size { size ≤ largest_load }
     ensures { result ≡ program_count size client }
 {
     (size + 8 - u32::from(client)) / 8
@@ -93,8 +93,8 @@ pub fn program_count(size: u32, client: u8) -> u32
 
 // The programs of a client: each eighth, from its own number on.
 fn programs(alloc: Global, seed: u64, size: u32, client: u8) -> Result<Programs, AllocError>
-    requires client { IsWithin 1 8 client }
-    requires size { size ≤ 80000 }
+    requires client { IsLoadClient client }
+    requires size { size ≤ largest_load }
     ensures { IfOk result (λ programs. programs ≡ programs_of seed size client) }
 {
     let first = u32::from(client) - 1;
@@ -115,8 +115,8 @@ fn programs(alloc: Global, seed: u64, size: u32, client: u8) -> Result<Programs,
 
 /// A client with its programs.
 pub fn client(alloc: Global, seed: u64, size: u32, client: u8) -> Result<Client, AllocError>
-    requires client { IsWithin 1 8 client }
-    requires size { size ≤ 80000 }
+    requires client { IsLoadClient client }
+    requires size { size ≤ largest_load }
     ensures { IfOk result (λ made. made ≡ client_of seed size client) }
 {
     Ok(Client {

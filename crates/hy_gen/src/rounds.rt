@@ -4,7 +4,8 @@ ghost use Rattle.std.specs.List.{range_with_len, flat_map};
 ghost use Rattle.hy_base.specs.Shape.{IsWithin};
 ghost use Rattle.hy_gen.specs.Rounds.{period, home, number_in, is_beginning, begin_events, ending, end_events, entry_count};
 ghost use Rattle.hy_gen.specs.Rounds.{ends, append_count, whole, log_len, pads, publishes, publish_event, events_in};
-ghost use Rattle.hy_gen.specs.Rounds.{round_count, schedule};
+ghost use Rattle.hy_gen.specs.Rounds.{IsLoadClient, IsLoadServer, round_count, round_limit, schedule};
+ghost use Rattle.hy_base.specs.Limits.{largest_load};
 
 use crate::programs::{CLIENTS, SERVERS, home};
 use hy_base::{Event, Pos};
@@ -12,7 +13,7 @@ use std::alloc::{AllocError, Global};
 
 // How many rounds a program on a server takes.
 fn period(server: u8) -> u32
-    requires { IsWithin 1 4 server }
+    requires { IsLoadServer server }
     ensures period { result ≡ period server }
     ensures within { IsWithin 1 8 result }
 {
@@ -21,8 +22,8 @@ fn period(server: u8) -> u32
 
 // The number of the program with which a client is busy in a round.
 fn number_in(client: u8, round: u32) -> u32
-    requires client { IsWithin 1 8 client }
-    requires round { round ≤ 100000 }
+    requires client { IsLoadClient client }
+    requires round { round ≤ round_limit }
     ensures { result ≡ number_in client round }
 {
     8 * (round / period(home(client))) + u32::from(client - 1)
@@ -30,8 +31,8 @@ fn number_in(client: u8, round: u32) -> u32
 
 // Whether a client begins a program in a round.
 fn is_beginning(size: usize, round: u32, client: u8) -> bool
-    requires client { IsWithin 1 8 client }
-    requires round { round ≤ 100000 }
+    requires client { IsLoadClient client }
+    requires round { round ≤ round_limit }
     ensures { result ≡ is_beginning size round client }
 {
     round % period(home(client)) == 0 && (number_in(client, round) as usize) < size
@@ -39,8 +40,8 @@ fn is_beginning(size: usize, round: u32, client: u8) -> bool
 
 // Whether the program that a client ends in a round only reads.
 fn ending(readers: &[bool], round: u32, client: u8) -> Option<bool>
-    requires client { IsWithin 1 8 client }
-    requires round { round ≤ 100000 }
+    requires client { IsLoadClient client }
+    requires round { round ≤ round_limit }
     ensures { result ≡ ending readers.now round client }
 {
     if (round + 1) % period(home(client)) != 0 {
@@ -50,8 +51,8 @@ fn ending(readers: &[bool], round: u32, client: u8) -> Option<bool>
 }
 
 fn add_begin(events: &mut Vec<Event>, size: usize, round: u32, client: u8) -> Result<(), AllocError>
-    requires client { IsWithin 1 8 client }
-    requires round { round ≤ 100000 }
+    requires client { IsLoadClient client }
+    requires round { round ≤ round_limit }
     ensures { OnOk result (events.new.items ≡ events.old.items ++ begin_events size round client) }
 {
     if is_beginning(size, round, client) {
@@ -61,7 +62,7 @@ fn add_begin(events: &mut Vec<Event>, size: usize, round: u32, client: u8) -> Re
 }
 
 fn add_begins(events: &mut Vec<Event>, size: usize, round: u32) -> Result<(), AllocError>
-    requires { round ≤ 100000 }
+    requires { round ≤ round_limit }
     ensures { OnOk result (events.new.items ≡ events.old.items ++ flat_map (begin_events size round) (range_with_len 1 8)) }
 {
     for client in 1..CLIENTS + 1 {
@@ -77,8 +78,8 @@ fn add_end(
     round: u32,
     client: u8,
 ) -> Result<u32, AllocError>
-    requires client { IsWithin 1 8 client }
-    requires round { round ≤ 100000 }
+    requires client { IsLoadClient client }
+    requires round { round ≤ round_limit }
     ensures events { OnOk result (events.new.items ≡ events.old.items ++ end_events client (ending readers.now round client)) }
     ensures entries { IfOk result (λ entries. entries ≡ entry_count (ending readers.now round client)) }
     ensures few { IfOk result (λ entries. entries ≤ 1) }
@@ -98,7 +99,7 @@ fn add_end(
 
 // Adds how the clients end their programs, and answers how many entries they append.
 fn add_ends(events: &mut Vec<Event>, readers: &[bool], round: u32) -> Result<u32, AllocError>
-    requires { round ≤ 100000 }
+    requires { round ≤ round_limit }
     ensures events { OnOk result (events.new.items ≡ events.old.items
         ++ flat_map (ends readers.now round) (range_with_len 1 8)) }
     ensures append_count { IfOk result (λ entries. entries ≡ append_count readers.now round) }
@@ -125,9 +126,9 @@ fn add_pad(events: &mut Vec<Event>, len: Pos) -> Result<Pos, AllocError>
 
 // The end of the log, where a server publishes it at the end of a round.
 fn publishing(lens: &[Pos], round: u32, server: u8) -> Option<Pos>
-    requires server { IsWithin 1 4 server }
+    requires server { IsLoadServer server }
     requires lens { length lens.now ≡ round + 2 }
-    requires round { round ≤ 100000 }
+    requires round { round ≤ round_limit }
     ensures { publishes (λ at. get_or lens.now at 0) round server ≡ publish_event server result }
 {
     let took = period(server);
@@ -148,9 +149,9 @@ fn add_publish(
     round: u32,
     server: u8,
 ) -> Result<(), AllocError>
-    requires server { IsWithin 1 4 server }
+    requires server { IsLoadServer server }
     requires lens { length lens.now ≡ round + 2 }
-    requires round { round ≤ 100000 }
+    requires round { round ≤ round_limit }
     ensures { OnOk result (events.new.items ≡ events.old.items ++ publishes (λ at. get_or lens.now at 0) round server) }
 {
     if let Some(upto) = publishing(lens, round, server) {
@@ -161,7 +162,7 @@ fn add_publish(
 
 fn add_publishes(events: &mut Vec<Event>, lens: &[Pos], round: u32) -> Result<(), AllocError>
     requires lens { length lens.now ≡ round + 2 }
-    requires round { round ≤ 100000 }
+    requires round { round ≤ round_limit }
     ensures { OnOk result (events.new.items ≡ events.old.items
         ++ flat_map (publishes (λ at. get_or lens.now at 0) round) (range_with_len 1 4)) }
 {
@@ -186,7 +187,7 @@ fn add_round(
     round: u32,
 ) -> Result<(), AllocError>
     requires lens { lens.old.items ≡ map (log_len readers.now) (range_with_len 0 (round + 1)) }
-    requires round { round < 100000 }
+    requires round { round < round_limit }
     ensures events { OnOk result (events.new.items ≡ events.old.items ++ events_in readers.now round) }
     ensures lens { OnOk result (lens.new.items ≡ map (log_len readers.now) (range_with_len 0 (round + 2))) }
 {
@@ -200,7 +201,7 @@ fn add_round(
 
 // How many rounds so many programs take.
 fn round_count(size: u32) -> u32
-    requires { size ≤ 80000 }
+    requires { size ≤ largest_load }
     ensures count { result ≡ round_count size }
     ensures most { result ≤ 80008 }
 {
@@ -212,7 +213,7 @@ fn round_count(size: u32) -> u32
 
 /// The events of all rounds. The list tells of each program whether it only reads.
 pub fn schedule(alloc: Global, readers: &[bool]) -> Result<Vec<Event>, AllocError>
-    requires { length readers.now ≤ 80000 }
+    requires { length readers.now ≤ largest_load }
     ensures { IfOk result (λ events. events.items ≡ schedule readers.now) }
 {
     let mut events = Vec::new(alloc);

@@ -5,7 +5,7 @@ use Rattle.std.proofs.lemmas.Bool.{cases_lt, false≢true}
 use Rattle.std.specs.List.{AllByRecursion}
 use Rattle.std.proofs.lemmas.List.{ext_get_or, take_at, drop_at, drop_more, drop-drop, take-take, length-map}
 use Rattle.hy_formats.specs.declared.header.Header.{Header}
-use Rattle.hy_formats.specs.LogFormat.{IsBody, places_of}
+use Rattle.hy_formats.specs.LogFormat.{IsBody, open_gate, places_of}
 use Rattle.hy_formats.specs.LogDevice.{IsFront, pages_in, Holds}
 use Rattle.hy_disk.specs.Content.{Content, settled, overwritten}
 use Rattle.hy_disk.proofs.Images.{torn_overwritten}
@@ -73,12 +73,12 @@ module _ (s : Header) (bodies : List (List ℕ)) (page : ℕ) (seen : List ℕ) 
         ∙ ap (λ (l : List ℕ). take gate seen ++ get_or image gate 0 ∷ l) (sym (take-append-drop n (drop (gate + 1) image)) ∙ ap (λ (l : List ℕ). l ++ rest) part))
 
     -- to open the gate is to put the batch behind an open gate
-    pub opened_stored : overwritten seen (256 * page) (71 ∷ []) ≡ gate_opened (256 * page) (staged batch) seen
+    pub opened_stored : overwritten seen (256 * page) (open_gate ∷ []) ≡ gate_opened (256 * page) (staged batch) seen
     opened_stored =
         let gate = 256 * page in
         let size = length (staged batch) in
         let junk : drop (gate + 1 + size) seen ≡ laid.behind = sym (drop-drop size (gate + 1) seen) ∙ ap (drop size) laid.stands ∙ drop_at (staged batch) laid.behind size refl in
-        append_assoc (take gate seen) (71 ∷ []) (drop (gate + 1) seen) ∙ ap (λ (l : List ℕ). take gate seen ++ 71 ∷ l) (laid.stands ∙ ap (λ (l : List ℕ). staged batch ++ l) (sym junk))
+        append_assoc (take gate seen) (open_gate ∷ []) (drop (gate + 1) seen) ∙ ap (λ (l : List ℕ). take gate seen ++ open_gate ∷ l) (laid.stands ∙ ap (λ (l : List ℕ). staged batch ++ l) (sym junk))
 
 -- ---- what stands
 
@@ -163,13 +163,13 @@ module _ {D : Type 0} {tells : Bool} {content : D → Content} {inside : Inside 
   rest = log.at_rest told running
 
   -- something is laid down: its gate is opened
-  grown_some : 1 ≤ length batch → IsGrown inside.header (inside.places.items ++ inside.batch.places.items) (old ++ batch) (inside.frontier + inside.batch.pages) (overwritten seen gate (71 ∷ []))
+  grown_some : 1 ≤ length batch → IsGrown inside.header (inside.places.items ++ inside.batch.places.items) (old ++ batch) (inside.frontier + inside.batch.pages) (overwritten seen gate (open_gate ∷ []))
   grown_some some =
       let piece : List ℕ = take (256 * inside.batch.pages) inside.batch.bytes.items in
       let low = lowered log in
       let mid : Content = settled (gate_opened gate piece seen) in
       let put : IsPut {D = Content} tells (λ c. c) (record { disk = content inside.disk; header = inside.header; places = inside.places; frontier = inside.frontier; batch = inside.batch; stopped = inside.stopped }) piece = record { log = low; some = some; is = refl } in
-      let is : gate_opened gate piece seen ≡ overwritten seen gate (71 ∷ []) =
+      let is : gate_opened gate piece seen ≡ overwritten seen gate (open_gate ∷ []) =
       ap (λ (p : List ℕ). gate_opened gate p seen) log.waits.spelled ∙ sym (opened_stored inside.header old inside.frontier seen (log.front told) rest.within rest.closed batch some (omega (arith, count, log.waits.few)) (placed some) log.sound laid) in
       let closed = grown_closed put mid told refl in
       let are = grown_bodies put mid told refl in

@@ -14,7 +14,7 @@ use Rattle.hy_base.specs.Entry.{is_told}
 use Rattle.hy_base.specs.declared.workload.Mode.{Mode}
 use Rattle.hy_base.specs.Script.{Workload, FitsTables, IsCommand, IsReading, client_count, counts_as}
 use Rattle.hy_base.specs.Tables.{attribute_limit, is_table_key, row_limit, text_limit}
-use Rattle.hy_base.specs.Shape.{newest_version, has_horizon, shape_fault, IsWithin, IsGoodShape, is_within}
+use Rattle.hy_base.specs.Shape.{newest_version, has_horizon, shape_fault, IsWithin, IsGoodShape, is_within, largest_cap}
 use Rattle.hy_base.specs.Spelling.{Text}
 use Rattle.hy_base.specs.Value.{is_value}
 use Rattle.hy_base.proofs.ShapeLemmas.{IsWithin-test}
@@ -32,7 +32,7 @@ use Rattle.hy_script.specs.declared.script.ProgramLine.TheVariants.{Next}
 use Rattle.hy_script.specs.declared.why.Why.{Why}
 use Rattle.hy_script.specs.declared.why.Why.TheVariants.{Word, Number, Value, Range, Order, Count, Version}
 use Rattle.hy_base.proofs.NumberLemmas.{number_of_decimal}
-use Rattle.hy_base.specs.Limits.{IsServerNumber}
+use Rattle.hy_base.specs.Limits.{IsServerNumber, most_boards, most_clients_of_server, most_commands, most_found, most_programs, most_servers, most_tables}
 use Rattle.hy_script.proofs.FieldLemmas.{passes}
 use Rattle.hy_script.proofs.ShapeLines.{good_passes}
 
@@ -77,7 +77,7 @@ told_of group window cap version horizon = record { group = group; window = wind
 
 -- the numbers of a shape, by its version
 module _ (group window cap low : ℕ) (a : group < 2 ^ 64) (b : window < 2 ^ 64) (c : cap < 2 ^ 64) where
-  numbers_by : (version : ℕ) (horizon : Option ℕ) → IsWithin 1 newest_version version → IfSome horizon (IsWithin low 2147483648) → is_some horizon ≡ has_horizon version
+  numbers_by : (version : ℕ) (horizon : Option ℕ) → IsWithin 1 newest_version version → IfSome horizon (IsWithin low largest_cap) → is_some horizon ≡ has_horizon version
       → shape_numbers (decimal group ∷ decimal window ∷ decimal cap ∷ (if version == 1 then [] else decimal version ∷ horizon_fields horizon)) ≡ Ok (told_of group window cap version horizon)
   unfolding digits
   numbers_by zero horizon version within there = absurd (omega (arith, version.at_least))
@@ -111,23 +111,23 @@ keeps_again true servers keeps a b one =
     ap {B = Result (ℕ × ℕ) Why} (λ read. and_then read (λ n. Ok (n, 1))) (one_again servers a) ∙ ap {B = Result (ℕ × ℕ) Why} (λ k. Ok (servers, k)) (sym (one refl))
 keeps_again false servers keeps a b one = two_again servers keeps a b
 
-pub servers_again : (servers keeps : ℕ) → IsServerNumber servers → IsWithin 1 64 keeps → servers_line (servers_words servers keeps) ≡ Ok (record { servers = servers; keeps = keeps })
+pub servers_again : (servers keeps : ℕ) → IsServerNumber servers → IsWithin 1 most_boards keeps → servers_line (servers_words servers keeps) ≡ Ok (record { servers = servers; keeps = keeps })
 servers_again servers keeps a b =
     ap (λ read. and_then read servers_within) (keeps_again (keeps == 1) servers keeps (omega (arith, a.at_most)) (omega (arith, b.at_most)) (λ e. eqb-true keeps 1 e))
-    ∙ if_so (is_within 1 8 servers && is_within 1 64 keeps) (Ok (record { servers = servers; keeps = keeps })) (Err Range)
-    (and_from (is_within 1 8 servers) (is_within 1 64 keeps) (IsWithin-test 1 8 servers a) (IsWithin-test 1 64 keeps b))
+    ∙ if_so (is_within 1 most_servers servers && is_within 1 most_boards keeps) (Ok (record { servers = servers; keeps = keeps })) (Err Range)
+    (and_from (is_within 1 most_servers servers) (is_within 1 most_boards keeps) (IsWithin-test 1 most_servers servers a) (IsWithin-test 1 most_boards keeps b))
 
-pub client_again : (sim : Bool) (script : Workload) (server : ℕ) → script.servers ≤ 8 → IsWithin 1 script.servers server → client_count script.clients server < 16
+pub client_again : (sim : Bool) (script : Workload) (server : ℕ) → script.servers ≤ most_servers → IsWithin 1 script.servers server → client_count script.clients server < most_clients_of_server
     → listing_line sim script (codes "client" ∷ decimal server ∷ []) ≡ Ok (Client server)
 client_again sim script server few w room =
-    ap (λ read. and_then read (λ s. if nat_lt (client_count script.clients s) 16 then Ok (Client s) else Err Count)) (within_again 1 script.servers server (omega (arith, few)) w)
-    ∙ if_so (nat_lt (client_count script.clients server) 16) (Ok (Client server)) (Err Count) (lt-ltb (client_count script.clients server) 16 room)
+    ap (λ read. and_then read (λ s. if nat_lt (client_count script.clients s) most_clients_of_server then Ok (Client s) else Err Count)) (within_again 1 script.servers server (omega (arith, few)) w)
+    ∙ if_so (nat_lt (client_count script.clients server) most_clients_of_server) (Ok (Client server)) (Err Count) (lt-ltb (client_count script.clients server) most_clients_of_server room)
 
 -- tables are told where neither they nor a client were
-pub tables_again : (sim : Bool) (script : Workload) (tables : ℕ) → may_tell_tables script ≡ true → IsWithin 1 255 tables → listing_line sim script (codes "tables" ∷ decimal tables ∷ []) ≡ Ok (Tables tables)
+pub tables_again : (sim : Bool) (script : Workload) (tables : ℕ) → may_tell_tables script ≡ true → IsWithin 1 most_tables tables → listing_line sim script (codes "tables" ∷ decimal tables ∷ []) ≡ Ok (Tables tables)
 tables_again sim script tables may w =
     if_so (may_tell_tables script && true) (tables_fields (decimal tables ∷ [])) _ (ap (λ t. t && true) may)
-    ∙ ap (λ read. and_then read (λ n. Ok (Tables n))) (within_again 1 255 tables (omega arith) w)
+    ∙ ap (λ read. and_then read (λ n. Ok (Tables n))) (within_again 1 most_tables tables (omega arith) w)
 
 mode_again : (shape : Shape) → IsGoodShape shape → (isolation : Isolation) (as_of : Option ℕ) → IsMode shape (record { isolation = isolation; as_of = as_of })
     → mode_fields shape (asked_fields isolation as_of) ≡ Ok (record { isolation = isolation; as_of = as_of })
@@ -138,12 +138,12 @@ mode_again shape good isolation (Some pos) asks =
     ∙ if_so (is_position shape pos) (Ok (mode_at pos)) (Err Range) (and_from (pos % shape.group == 0) (nat_le pos shape.cap) (eq-eqb (pos % shape.group) 0 asks.0.0) (le-leb pos shape.cap asks.0.1))
     ∙ ap (λ i. Ok (record { isolation = i; as_of = Some pos })) (sym (asks.1 refl))
 
-begins_again : (version count : ℕ) (mode : Mode) → count < 10000 → is_told version mode.isolation ≡ true → one_more_program version count mode ≡ Ok (Begin mode)
+begins_again : (version count : ℕ) (mode : Mode) → count < most_programs → is_told version mode.isolation ≡ true → one_more_program version count mode ≡ Ok (Begin mode)
 begins_again version count mode room told =
-    if_so (nat_lt count 10000) (if is_told version mode.isolation then Ok (Begin mode) else Err Version) (Err Count) (lt-ltb count 10000 room)
+    if_so (nat_lt count most_programs) (if is_told version mode.isolation then Ok (Begin mode) else Err Version) (Err Count) (lt-ltb count most_programs room)
     ∙ if_so (is_told version mode.isolation) (Ok (Begin mode)) (Err Version) told
 
-pub begin_again : (sim : Bool) (script : Workload) (mode : Mode) → IsGoodShape script.shape → 0 < length script.clients → last_program_count script.clients < 10000 → is_told script.shape.version mode.isolation ≡ true → IsMode script.shape mode
+pub begin_again : (sim : Bool) (script : Workload) (mode : Mode) → IsGoodShape script.shape → 0 < length script.clients → last_program_count script.clients < most_programs → is_told script.shape.version mode.isolation ≡ true → IsMode script.shape mode
     → listing_line sim script (begin_words mode) ≡ Ok (Begin mode)
 begin_again sim script mode good is room told asks =
     passes (may_tell_tables script) (tables_fields (asked_fields mode.isolation mode.as_of)) _
@@ -154,10 +154,10 @@ begin_again sim script mode good is room told asks =
 pub schedule_again : (script : Workload) → listing_line true script (codes "schedule" ∷ []) ≡ Ok Schedule
 schedule_again script = passes (may_tell_tables script) _ _ ∙ passes (nat_lt 0 (length script.clients)) _ _
 
-one_more_again : (count : ℕ) (command : Command) → count + counts_as command ≤ 64 → one_more count command ≡ Ok (Next command)
-one_more_again count command room = if_so (nat_le (count + counts_as command) 64) (Ok (Next command)) (Err Count) (le-leb (count + counts_as command) 64 room)
+one_more_again : (count : ℕ) (command : Command) → count + counts_as command ≤ most_commands → one_more count command ≡ Ok (Next command)
+one_more_again count command room = if_so (nat_le (count + counts_as command) most_commands) (Ok (Next command)) (Err Count) (le-leb (count + counts_as command) most_commands room)
 
-in_range_again : (t : Bool) (count : ℕ) (command : Command) → t ≡ true → count + counts_as command ≤ 64 → one_more_if t count command ≡ Ok (Next command)
+in_range_again : (t : Bool) (count : ℕ) (command : Command) → t ≡ true → count + counts_as command ≤ most_commands → one_more_if t count command ≡ Ok (Next command)
 in_range_again t count command e room = if_so t (one_more count command) (Err Range) e ∙ one_more_again count command room
 
 -- the lines of commands that write, where there are tables or aren't
@@ -182,7 +182,7 @@ row_test : (tables table row : ℕ) → IsWithin 1 tables table → row < row_li
 row_test tables table row w small = and_from (is_within 1 tables table) (nat_lt row row_limit) (IsWithin-test 1 tables table w) (lt-ltb row row_limit small)
 
 -- a command that may stand there, since it reads or the program may write
-pub command_again : (tables : ℕ) (reads : Bool) (count : ℕ) (command : Command) → tables ≤ 255 → FitsFields command → IsCommand command → (reads ≡ true → IsReading command) → FitsTables tables command → count + counts_as command ≤ 64
+pub command_again : (tables : ℕ) (reads : Bool) (count : ℕ) (command : Command) → tables ≤ most_tables → FitsFields command → IsCommand command → (reads ≡ true → IsReading command) → FitsTables tables command → count + counts_as command ≤ most_commands
     → program_line tables reads count (command_words command) ≡ Ok (Next command)
 command_again tables reads count (Get key) few fits lawful may there room = ap (λ read. and_then read (λ k. one_more count (Get k))) (one_again key fits) ∙ one_more_again count (Get key) room
 command_again tables true count (Put key value) few fits lawful may there room = absurd (may refl)
@@ -201,9 +201,9 @@ command_again tables false count (Add key n) few fits lawful may there room =
     ∙ in_range_again (not (is_table_key tables key)) count (Add key n) (ap not there) room
 command_again tables reads count (Scan lo hi n) few fits lawful may there room =
     let read = three_again lo hi n (omega (arith, fits, lawful.0)) fits (omega (arith, lawful.1.at_most)) in
-    ap (λ r. and_then (and_then r (λ p. if is_within 1 1000 p.2 then (if nat_le p.0 p.1 then Ok (Scan p.0 p.1 p.2) else Err Order) else Err Range)) (one_more count)) read
+    ap (λ r. and_then (and_then r (λ p. if is_within 1 most_found p.2 then (if nat_le p.0 p.1 then Ok (Scan p.0 p.1 p.2) else Err Order) else Err Range)) (one_more count)) read
     ∙ ap (λ r. and_then r (one_more count))
-    (if_so (is_within 1 1000 n) (if nat_le lo hi then Ok (Scan lo hi n) else Err Order) (Err Range) (IsWithin-test 1 1000 n lawful.1) ∙ if_so (nat_le lo hi) (Ok (Scan lo hi n)) (Err Order) (le-leb lo hi lawful.0))
+    (if_so (is_within 1 most_found n) (if nat_le lo hi then Ok (Scan lo hi n) else Err Order) (Err Range) (IsWithin-test 1 most_found n lawful.1) ∙ if_so (nat_le lo hi) (Ok (Scan lo hi n)) (Err Order) (le-leb lo hi lawful.0))
     ∙ one_more_again count (Scan lo hi n) room
 command_again tables true count (Row table row attribute text) few fits lawful may there room = absurd (may refl)
 command_again tables false count (Row table row attribute text) few fits lawful may there room =
@@ -228,5 +228,5 @@ command_again tables reads count (Find table attribute n) few fits lawful may th
     ∙ ap (λ read. and_then read (λ p. one_more_if (is_search tables p.0 p.1 p.2) count (Find p.0 p.1 p.2)))
     (three_again table attribute n (omega (arith, few, there.at_most)) (omega (arith, lawful.0)) (omega (arith, lawful.1.at_most)))
     ∙ in_range_again (is_search tables table attribute n) count (Find table attribute n)
-    (and_from (is_within 1 tables table) (nat_lt attribute attribute_limit && is_within 1 1000 n) (IsWithin-test 1 tables table there)
-    (and_from (nat_lt attribute attribute_limit) (is_within 1 1000 n) (lt-ltb attribute attribute_limit lawful.0) (IsWithin-test 1 1000 n lawful.1))) room
+    (and_from (is_within 1 tables table) (nat_lt attribute attribute_limit && is_within 1 most_found n) (IsWithin-test 1 tables table there)
+    (and_from (nat_lt attribute attribute_limit) (is_within 1 most_found n) (lt-ltb attribute attribute_limit lawful.0) (IsWithin-test 1 most_found n lawful.1))) room

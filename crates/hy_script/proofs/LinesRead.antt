@@ -16,7 +16,7 @@ use Rattle.hy_base.specs.Tables.{attribute_limit, is_table_key, row_limit, text_
 use Rattle.hy_base.specs.Shape.{newest_version, shape_fault, IsWithin, IsGoodShape, is_within}
 use Rattle.hy_base.specs.Spelling.{Text}
 use Rattle.hy_base.specs.Value.{is_value}
-use Rattle.hy_base.specs.Limits.{IsServerNumber}
+use Rattle.hy_base.specs.Limits.{IsServerNumber, most_boards, most_clients_of_server, most_commands, most_found, most_programs, most_servers, most_tables}
 use Rattle.hy_base.proofs.ShapeLemmas.{is_within-true}
 use Rattle.hy_script.specs.Fields.{and_then, one_number, two_numbers, three_numbers, four_numbers, number_and_text, three_numbers_and_text, no_fields}
 use Rattle.hy_script.specs.Grammar.{plain_mode, mode_at, is_position, is_row, is_row_text, is_row_with, is_search, last_program_count, may_tell_tables}
@@ -117,7 +117,7 @@ number_within_was low high fields n e =
 pub record IsServersLine (words : List Text) (told : ToldServers) : Type 0 where
   pub are : plain words ≡ servers_words told.servers told.keeps
   pub servers : IsServerNumber told.servers
-  pub keeps : IsWithin 1 64 told.keeps
+  pub keeps : IsWithin 1 most_boards told.keeps
 
 -- a number is spelled 1 where it is 1
 one_spelled : (t : Bool) (keeps : ℕ) → keeps < 2 ^ 64 → bytes_eq (decimal keeps) (codes "1") ≡ t → (keeps == 1) ≡ t
@@ -155,22 +155,22 @@ servers_was (word ∷ fields) told e =
     let step = and_then_was (servers_numbers fields) servers_within told named.1 in
     let p = step.0 in
     let made : ToldServers = record { servers = p.0; keeps = p.1 } in
-    let tested = if_was (is_within 1 8 p.0 && is_within 1 64 p.1) (Ok made) Range told step.2 in
+    let tested = if_was (is_within 1 most_servers p.0 && is_within 1 most_boards p.1) (Ok made) Range told step.2 in
     let same : made ≡ told = cc (tested.1) in
-    let parts = and_parts (is_within 1 8 p.0) (is_within 1 64 p.1) tested.0 in
+    let parts = and_parts (is_within 1 most_servers p.0) (is_within 1 most_boards p.1) tested.0 in
     subst (IsServersLine (word ∷ fields)) same (record {
       are = ap plain (words_are word (codes "servers") fields fields named.0 refl) ∙ servers_numbers_were fields p step.1;
-      servers = is_within-true 1 8 p.0 parts.0;
-      keeps = is_within-true 1 64 p.1 parts.1;
+      servers = is_within-true 1 most_servers p.0 parts.0;
+      keeps = is_within-true 1 most_boards p.1 parts.1;
     })
 
 -- between programs
 
 abbrev pub IsListingLine : Workload → List Text → ListingLine → Type 0
-IsListingLine script words (Tables tables) = (words ≡ codes "tables" ∷ decimal tables ∷ []) × IsWithin 1 255 tables × (script.tables ≡ 0) × (script.clients ≡ [])
-IsListingLine script words (Client server) = (words ≡ codes "client" ∷ decimal server ∷ []) × IsWithin 1 script.servers server × (client_count script.clients server < 16)
+IsListingLine script words (Tables tables) = (words ≡ codes "tables" ∷ decimal tables ∷ []) × IsWithin 1 most_tables tables × (script.tables ≡ 0) × (script.clients ≡ [])
+IsListingLine script words (Client server) = (words ≡ codes "client" ∷ decimal server ∷ []) × IsWithin 1 script.servers server × (client_count script.clients server < most_clients_of_server)
 IsListingLine script words (Begin mode) =
-    (words ≡ begin_words mode) × (0 < length script.clients) × (last_program_count script.clients < 10000) × (is_told script.shape.version mode.isolation ≡ true) × IsMode script.shape mode
+    (words ≡ begin_words mode) × (0 < length script.clients) × (last_program_count script.clients < most_programs) × (is_told script.shape.version mode.isolation ≡ true) × IsMode script.shape mode
 IsListingLine script words Schedule = words ≡ codes "schedule" ∷ []
 
 none_left : (clients : List ScriptClient) → length clients ≡ 0 → clients ≡ []
@@ -179,20 +179,20 @@ none_left (c ∷ clients) none = absurd (omega (arith, none))
 
 tables_was : (script : Workload) (word : Text) (fields : List Text) (read : ListingLine) → may_tell_tables script ≡ true → bytes_eq word (codes "tables") ≡ true → tables_fields fields ≡ Ok read → IsListingLine script (word ∷ fields) read
 tables_was script word fields read may named e =
-    let step = and_then_was (number_within 1 255 fields) (λ tables. Ok (Tables tables)) read e in
+    let step = and_then_was (number_within 1 most_tables fields) (λ tables. Ok (Tables tables)) read e in
     let same : Tables step.0 ≡ read = cc (step.2) in
-    let was = number_within_was 1 255 fields step.0 step.1 in
+    let was = number_within_was 1 most_tables fields step.0 step.1 in
     let parts = and_parts (script.tables == 0) (length script.clients == 0) may in
     subst (IsListingLine script (word ∷ fields)) same
     (words_are word (codes "tables") fields _ named was.0, was.1, eqb-true script.tables 0 parts.0, none_left script.clients (eqb-true (length script.clients) 0 parts.1))
 
 client_was : (script : Workload) (word : Text) (fields : List Text) (read : ListingLine) → bytes_eq word (codes "client") ≡ true → client_fields script fields ≡ Ok read → IsListingLine script (word ∷ fields) read
 client_was script word fields read named e =
-    let step = and_then_was (number_within 1 script.servers fields) (λ server. if nat_lt (client_count script.clients server) 16 then Ok (Client server) else Err Count) read e in
-    let tested = if_was (nat_lt (client_count script.clients step.0) 16) (Ok (Client step.0)) Count read step.2 in
+    let step = and_then_was (number_within 1 script.servers fields) (λ server. if nat_lt (client_count script.clients server) most_clients_of_server then Ok (Client server) else Err Count) read e in
+    let tested = if_was (nat_lt (client_count script.clients step.0) most_clients_of_server) (Ok (Client step.0)) Count read step.2 in
     let same : Client step.0 ≡ read = cc (tested.1) in
     let was = number_within_was 1 script.servers fields step.0 step.1 in
-    subst (IsListingLine script (word ∷ fields)) same (words_are word (codes "client") fields _ named was.0, was.1, ltb-true (client_count script.clients step.0) 16 tested.0)
+    subst (IsListingLine script (word ∷ fields)) same (words_are word (codes "client") fields _ named was.0, was.1, ltb-true (client_count script.clients step.0) most_clients_of_server tested.0)
 
 -- the fields are those of what is asked for, and that may be asked for
 abbrev AreModeFields : Shape → List Text → Mode → Type 0
@@ -224,12 +224,12 @@ begin_was : (script : Workload) (word : Text) (fields : List Text) (read : Listi
 begin_was script word fields read named some e =
     let step = and_then_was (mode_fields script.shape fields) (one_more_program script.shape.version (last_program_count script.clients)) read e in
     let mode = step.0 in
-    let tested = if_was (nat_lt (last_program_count script.clients) 10000) (if is_told script.shape.version mode.isolation then Ok (Begin mode) else Err Version) Count read step.2 in
+    let tested = if_was (nat_lt (last_program_count script.clients) most_programs) (if is_told script.shape.version mode.isolation then Ok (Begin mode) else Err Version) Count read step.2 in
     let told = if_was (is_told script.shape.version mode.isolation) (Ok (Begin mode)) Version read tested.1 in
     let same : Begin mode ≡ read = cc (told.1) in
     let was = mode_was script.shape fields mode step.1 in
     subst (IsListingLine script (word ∷ fields)) same
-    (words_are word (codes "begin") fields _ named was.0, some, ltb-true (last_program_count script.clients) 10000 tested.0, told.0, was.1)
+    (words_are word (codes "begin") fields _ named was.0, some, ltb-true (last_program_count script.clients) most_programs tested.0, told.0, was.1)
 
 schedule_was : (script : Workload) (word : Text) (fields : List Text) (read : ListingLine) → bytes_eq word (codes "schedule") ≡ true → and_then (no_fields fields) (λ u. Ok Schedule) ≡ Ok read
     → IsListingLine script (word ∷ fields) read
@@ -259,7 +259,7 @@ pub record IsNextLine (tables : ℕ) (reads : Bool) (count : ℕ) (words : List 
   pub lawful : IsCommand command
   pub may : reads ≡ true → IsReading command
   pub fits_tables : FitsTables tables command
-  pub room : count + counts_as command ≤ 64
+  pub room : count + counts_as command ≤ most_commands
 
 abbrev pub IsProgramLine : ℕ → Bool → ℕ → List Text → ProgramLine → Type 0
 IsProgramLine tables reads count words (Next command) = IsNextLine tables reads count words command
@@ -272,10 +272,10 @@ module _ (tables : ℕ) (reads : Bool) (count : ℕ) (word : Text) (fields : Lis
 
   next_was : (command : Command) → one_more count command ≡ Ok read → word ∷ fields ≡ command_words command → FitsFields command → IsCommand command → (reads ≡ true → IsReading command) → FitsTables tables command → WasRead
   next_was command e same fits lawful may in_tables =
-      let tested = if_was (nat_le (count + counts_as command) 64) (Ok (Next command)) Count read e in
+      let tested = if_was (nat_le (count + counts_as command) most_commands) (Ok (Next command)) Count read e in
       let is : Next command ≡ read = cc (tested.1) in
       subst (IsProgramLine tables reads count (word ∷ fields)) is
-      (record { are = same; fits = fits; lawful = lawful; may = may; fits_tables = in_tables; room = leb-true (count + counts_as command) 64 tested.0 })
+      (record { are = same; fits = fits; lawful = lawful; may = may; fits_tables = in_tables; room = leb-true (count + counts_as command) most_commands tested.0 })
 
   get_was : bytes_eq word (codes "get") ≡ true → and_then (one_number fields) (λ key. one_more count (Get key)) ≡ Ok read → WasRead
   get_was named e =
@@ -286,14 +286,14 @@ module _ (tables : ℕ) (reads : Bool) (count : ℕ) (word : Text) (fields : Lis
   scan_was : bytes_eq word (codes "scan") ≡ true → and_then (scan_fields fields) (one_more count) ≡ Ok read → WasRead
   scan_was named e =
       let step = and_then_was (scan_fields fields) (one_more count) read e in
-      let scan = and_then_was (three_numbers fields) (λ p. if is_within 1 1000 p.2 then (if nat_le p.0 p.1 then Ok (Scan p.0 p.1 p.2) else Err Order) else Err Range) step.0 step.1 in
+      let scan = and_then_was (three_numbers fields) (λ p. if is_within 1 most_found p.2 then (if nat_le p.0 p.1 then Ok (Scan p.0 p.1 p.2) else Err Order) else Err Range) step.0 step.1 in
       let p = scan.0 in
       let was = three_was fields p scan.1 in
-      let ranged = if_was (is_within 1 1000 p.2) (if nat_le p.0 p.1 then Ok (Scan p.0 p.1 p.2) else Err Order) Range step.0 scan.2 in
+      let ranged = if_was (is_within 1 most_found p.2) (if nat_le p.0 p.1 then Ok (Scan p.0 p.1 p.2) else Err Order) Range step.0 scan.2 in
       let ordered = if_was (nat_le p.0 p.1) (Ok (Scan p.0 p.1 p.2)) Order step.0 ranged.1 in
       let is : step.0 ≡ Scan p.0 p.1 p.2 = cc (ordered.1) in
       next_was (Scan p.0 p.1 p.2) (ap (one_more count) (sym is) ∙ step.2) (words_are word (codes "scan") fields _ named was.words) was.second
-      (leb-true p.0 p.1 ordered.0, is_within-true 1 1000 p.2 ranged.0) (λ asks. tt) tt
+      (leb-true p.0 p.1 ordered.0, is_within-true 1 most_found p.2 ranged.0) (λ asks. tt) tt
 
   end_was : bytes_eq word (codes "end") ≡ true → and_then (no_fields fields) (λ u. Ok End) ≡ Ok read → WasRead
   end_was named e =
@@ -318,10 +318,10 @@ module _ (tables : ℕ) (reads : Bool) (count : ℕ) (word : Text) (fields : Lis
       let step = and_then_was (three_numbers fields) (λ p. one_more_if (is_search tables p.0 p.1 p.2) count (Find p.0 p.1 p.2)) read e in
       let p = step.0 in
       let tested = if_was (is_search tables p.0 p.1 p.2) (one_more count (Find p.0 p.1 p.2)) Range read step.2 in
-      let table = and_parts (is_within 1 tables p.0) (nat_lt p.1 attribute_limit && is_within 1 1000 p.2) tested.0 in
-      let others = and_parts (nat_lt p.1 attribute_limit) (is_within 1 1000 p.2) table.1 in
+      let table = and_parts (is_within 1 tables p.0) (nat_lt p.1 attribute_limit && is_within 1 most_found p.2) tested.0 in
+      let others = and_parts (nat_lt p.1 attribute_limit) (is_within 1 most_found p.2) table.1 in
       next_was (Find p.0 p.1 p.2) tested.1 (words_are word (codes "find") fields _ named (three_was fields p step.1).words) tt
-      (ltb-true p.1 attribute_limit others.0, is_within-true 1 1000 p.2 others.1) (λ asks. tt) (is_within-true 1 tables p.0 table.0)
+      (ltb-true p.1 attribute_limit others.0, is_within-true 1 most_found p.2 others.1) (λ asks. tt) (is_within-true 1 tables p.0 table.0)
 
   -- a command that writes stands only where the program doesn't only read
   writes : {A : Type 0} → reads ≡ false → reads ≡ true → A

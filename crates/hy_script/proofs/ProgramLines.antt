@@ -16,6 +16,7 @@ use Rattle.hy_base.specs.Tables.{is_table_key}
 use Rattle.hy_base.specs.Shape.{is_within}
 use Rattle.hy_base.specs.Value.{is_value}
 use Rattle.hy_base.specs.Spelling.{Text, number_of}
+use Rattle.hy_base.specs.Limits.{most_found, most_tables, most_programs, most_commands, most_clients_of_server}
 use Rattle.hy_script.specs.Forms.{Meaning, LineForm, OneNumber, TwoNumbers, ThreeNumbers, NumberAndText, ThreeNumbersAndText, FixedWord, judged_words, meaning_of, is_blank, read_line, read_fields}
 use Rattle.hy_script.specs.Fields.{and_then, one_number, two_numbers, three_numbers, number_and_text, three_numbers_and_text, no_fields}
 use Rattle.hy_script.specs.Grammar.{Place, Listing, Programming, Scheduled, client_form, tables_form, command_forms, is_row, is_row_text, is_row_with, is_search, may_tell_tables, with_tables, begins_program, begin_forms, end_form, schedule_form, forms_at, makes, makes_if, gains, with_client, with_program, gains_command, plain_mode, mode_at, begun, is_position, last_program_count}
@@ -90,7 +91,7 @@ module _ (script : Workload) (program : Program) (fields : List Text) where
   read_as line form = leading (after_program_line script program) line ≡ read_fields (form ∷ []) fields
 
   abbrev room : Command → Bool
-  room command = nat_le (count + counts_as command) 64
+  room command = nat_le (count + counts_as command) most_commands
 
   get_read : read_as (and_then (one_number fields) (λ key. one_more count (Get key))) (OneNumber "get" (λ key. gains script program (Get key) []))
   get_read = sym (read_one "get" _ fields ∙ over _ (one_number fields) (λ key. gains script program (Get key) []) (λ key. one_more count (Get key)) (λ key. counted (room (Get key)) script program (Get key)))
@@ -109,12 +110,12 @@ module _ (script : Workload) (program : Program) (fields : List Text) where
       (λ p. one_more_if (not (is_table_key script.tables p.0)) count (Add p.0 p.1)) (λ p. ranged (not (is_table_key script.tables p.0)) (room (Add p.0 p.1)) script program (Add p.0 p.1)))
 
   abbrev one_scan : ℕ × ℕ × ℕ → Result Command Why
-  one_scan p = if is_within 1 1000 p.2 then (if nat_le p.0 p.1 then Ok (Scan p.0 p.1 p.2) else Err Order) else Err Range
+  one_scan p = if is_within 1 most_found p.2 then (if nat_le p.0 p.1 then Ok (Scan p.0 p.1 p.2) else Err Order) else Err Range
 
-  scan_read : read_as (and_then (scan_fields fields) (one_more count)) (ThreeNumbers "scan" (λ lo hi n. gains script program (Scan lo hi n) ((is_within 1 1000 n, Range) ∷ (nat_le lo hi, Order) ∷ [])))
+  scan_read : read_as (and_then (scan_fields fields) (one_more count)) (ThreeNumbers "scan" (λ lo hi n. gains script program (Scan lo hi n) ((is_within 1 most_found n, Range) ∷ (nat_le lo hi, Order) ∷ [])))
   scan_read = sym (read_three "scan" _ fields
-      ∙ over _ (three_numbers fields) (λ p. gains script program (Scan p.0 p.1 p.2) ((is_within 1 1000 p.2, Range) ∷ (nat_le p.0 p.1, Order) ∷ [])) (λ p. and_then (one_scan p) (one_more count))
-      (λ p. scanned (is_within 1 1000 p.2) (nat_le p.0 p.1) room script program (Scan p.0 p.1 p.2))
+      ∙ over _ (three_numbers fields) (λ p. gains script program (Scan p.0 p.1 p.2) ((is_within 1 most_found p.2, Range) ∷ (nat_le p.0 p.1, Order) ∷ [])) (λ p. and_then (one_scan p) (one_more count))
+      (λ p. scanned (is_within 1 most_found p.2) (nat_le p.0 p.1) room script program (Scan p.0 p.1 p.2))
       ∙ ap (leading (after_program_line script program)) (joined (three_numbers fields) one_scan (one_more count)))
 
   end_read : read_as (and_then (no_fields fields) (λ u. Ok End)) (end_form script program)
@@ -228,9 +229,9 @@ client_room true script number server = refl
 client_room false script number server = refl
 
 client_tests : (r : Bool) (script : Workload) (number server : ℕ)
-    → judged_words (makes_if ((r, Range) ∷ (nat_lt (client_count script.clients server) 16, Count) ∷ []) (Listing (with_client server script)))
-    ≡ leading (after_listing script number) (and_then (if r then Ok server else Err Range) (λ s. if nat_lt (client_count script.clients s) 16 then Ok (Client s) else Err Count))
-client_tests true script number server = client_room (nat_lt (client_count script.clients server) 16) script number server
+    → judged_words (makes_if ((r, Range) ∷ (nat_lt (client_count script.clients server) most_clients_of_server, Count) ∷ []) (Listing (with_client server script)))
+    ≡ leading (after_listing script number) (and_then (if r then Ok server else Err Range) (λ s. if nat_lt (client_count script.clients s) most_clients_of_server then Ok (Client s) else Err Count))
+client_tests true script number server = client_room (nat_lt (client_count script.clients server) most_clients_of_server) script number server
 client_tests false script number server = refl
 
 -- what is asked for a program, once its position is in range
@@ -245,11 +246,11 @@ abbrev begun_by : Workload → Mode → Result ListingLine Why
 begun_by script = one_more_program script.shape.version (last_program_count script.clients)
 
 abbrev mode_tests : Bool → Workload → Mode → Meaning Place
-mode_tests p script mode = makes_if ((p, Range) ∷ (nat_lt (last_program_count script.clients) 10000, Count) ∷ (is_told script.shape.version mode.isolation, Version) ∷ []) (Programming script (begun mode))
+mode_tests p script mode = makes_if ((p, Range) ∷ (nat_lt (last_program_count script.clients) most_programs, Count) ∷ (is_told script.shape.version mode.isolation, Version) ∷ []) (Programming script (begun mode))
 
 begin_tests : (p : Bool) (script : Workload) (number : ℕ) (mode : Mode)
     → judged_words (mode_tests p script mode) ≡ leading (after_listing script number) (and_then (if p then Ok mode else Err Range) (begun_by script))
-begin_tests true script number mode = begin_room (nat_lt (last_program_count script.clients) 10000) (is_told script.shape.version mode.isolation) script number mode
+begin_tests true script number mode = begin_room (nat_lt (last_program_count script.clients) most_programs) (is_told script.shape.version mode.isolation) script number mode
 begin_tests false script number mode = refl
 
 not_blank : (a : Text) → is_blank a ≡ true → bytes_eq a (codes "snapshot") ≡ false
@@ -325,19 +326,19 @@ module _ (number : ℕ) (script : Workload) (fields : List Text) where
   number_in high n = if is_within 1 high n then Ok n else Err Range
 
   abbrev with_room : ℕ → Result ListingLine Why
-  with_room s = if nat_lt (client_count script.clients s) 16 then Ok (Client s) else Err Count
+  with_room s = if nat_lt (client_count script.clients s) most_clients_of_server then Ok (Client s) else Err Count
 
   client_read : leading (after_listing script number) (client_fields script fields) ≡ read_fields (client_form script ∷ []) fields
   client_read = sym (read_one "client" _ fields
-      ∙ over (after_listing script number) (one_number fields) (λ s. makes_if ((is_within 1 script.servers s, Range) ∷ (nat_lt (client_count script.clients s) 16, Count) ∷ []) (Listing (with_client s script)))
+      ∙ over (after_listing script number) (one_number fields) (λ s. makes_if ((is_within 1 script.servers s, Range) ∷ (nat_lt (client_count script.clients s) most_clients_of_server, Count) ∷ []) (Listing (with_client s script)))
       (λ n. and_then (number_in script.servers n) with_room) (λ n. client_tests (is_within 1 script.servers n) script number n)
       ∙ ap (leading (after_listing script number)) (joined (one_number fields) (number_in script.servers) with_room))
 
   tables_read : leading (after_listing script number) (tables_fields fields) ≡ read_fields (tables_form script ∷ []) fields
   tables_read = sym (read_one "tables" _ fields
-      ∙ over (after_listing script number) (one_number fields) (λ n. makes_if ((is_within 1 255 n, Range) ∷ []) (Listing (with_tables n script)))
-      (λ n. and_then (number_in 255 n) (λ t. Ok (Tables t))) (λ n. tables_test (is_within 1 255 n) script number n)
-      ∙ ap (leading (after_listing script number)) (joined (one_number fields) (number_in 255) (λ t. Ok (Tables t))))
+      ∙ over (after_listing script number) (one_number fields) (λ n. makes_if ((is_within 1 most_tables n, Range) ∷ []) (Listing (with_tables n script)))
+      (λ n. and_then (number_in most_tables n) (λ t. Ok (Tables t))) (λ n. tables_test (is_within 1 most_tables n) script number n)
+      ∙ ap (leading (after_listing script number)) (joined (one_number fields) (number_in most_tables) (λ t. Ok (Tables t))))
 
   begin_read : leading (after_listing script number) (begin_fields script fields) ≡ read_fields (begin_forms script) fields
   begin_read = begin_forms_read number script fields

@@ -18,9 +18,9 @@ use Rattle.hy_base.specs.declared.workload.Program.{Program}
 use Rattle.hy_base.specs.Entry.{is_told}
 use Rattle.hy_base.specs.declared.workload.Mode.{Mode}
 use Rattle.hy_base.specs.Script.{Workload, AreTold, AskForGroups, ClientFitsTables, FitsTables, IsAsOf, IsClient, IsCommand, IsProgram, IsReading, client_count, command_count, counts_as, home_of, mode_of}
-use Rattle.hy_base.specs.Shape.{IsGoodShape, IsWithin}
+use Rattle.hy_base.specs.Shape.{IsGoodShape, IsWithin, largest_cap}
 use Rattle.hy_base.specs.Spelling.{Text}
-use Rattle.hy_base.specs.Limits.{IsServerNumber}
+use Rattle.hy_base.specs.Limits.{IsServerNumber, most_boards, most_clients_of_server, most_commands, most_programs, most_servers, most_tables}
 use Rattle.hy_script.specs.Grammar.{Place, AtStart, Shaped, Listing, Programming, change_last, gains_program, last_program_count, with_program, gains_command, begun}
 use Rattle.hy_script.specs.ScriptLaws.{ClientFits, FitsFields, IsScriptSpellable, ProgramFits, ReadsItsSpelling}
 use Rattle.hy_script.specs.Lines.{lines_of, numbered_lines, words_of}
@@ -73,7 +73,7 @@ one_line sim place last words speech leads = record {
 
 -- what the lines of a place lead to, by their words
 
-visible_horizon : (horizon : Option ℕ) (low : ℕ) → IfSome horizon (IsWithin low 2147483648) → AllByRecursion (λ word. is_visible word ≡ true) (horizon_fields horizon)
+visible_horizon : (horizon : Option ℕ) (low : ℕ) → IfSome horizon (IsWithin low largest_cap) → AllByRecursion (λ word. is_visible word ≡ true) (horizon_fields horizon)
 visible_horizon None low within = tt
 visible_horizon (Some h) low within = (visible_decimal h (omega (arith, within.at_most)), tt)
 
@@ -104,7 +104,7 @@ shape_walks sim shape good =
     })
     (λ number line e. sym (shape_leads sim number (words_of line)) ∙ ap (leading Shaped) (ap shape_line e ∙ shape_again shape good))
 
-servers_walk : (sim : Bool) (shape : Shape) (servers keeps : ℕ) → IsServerNumber servers → IsWithin 1 64 keeps
+servers_walk : (sim : Bool) (shape : Shape) (servers keeps : ℕ) → IsServerNumber servers → IsWithin 1 most_boards keeps
     → Walks sim (Shaped shape) (servers_words servers keeps ∷ []) (listing_of shape (record { servers = servers; keeps = keeps }))
 servers_walk sim shape servers keeps within kept =
     one_line sim (Shaped shape) (listing_of shape (record { servers = servers; keeps = keeps })) _
@@ -119,7 +119,7 @@ at_least_one : (n : ℕ) → (n == 0) ≡ false → 1 ≤ n
 at_least_one zero e = cc
 at_least_one (suc n) e = omega arith
 
-tables_walk : (sim : Bool) (script : Workload) (tables : ℕ) → tables ≤ 255 → Walks sim (Listing (without_clients script 0)) (tables_lines tables) (Listing (without_clients script tables))
+tables_walk : (sim : Bool) (script : Workload) (tables : ℕ) → tables ≤ most_tables → Walks sim (Listing (without_clients script 0)) (tables_lines tables) (Listing (without_clients script tables))
 tables_walk sim script tables few = by (tables == 0) refl where
   by : (t : Bool) → (tables == 0) ≡ t → Walks sim (Listing (without_clients script 0)) (if t then [] else (codes "tables" ∷ decimal tables ∷ []) ∷ []) (Listing (without_clients script tables))
   by true e = subst (λ n. Walks sim (Listing (without_clients script 0)) [] (Listing (without_clients script n))) (sym (eqb-true tables 0 e)) (stays sim (Listing (without_clients script 0)))
@@ -133,7 +133,7 @@ tables_walk sim script tables few = by (tables == 0) refl where
 abbrev without_programs : ℕ → Client
 without_programs server = record { server = server; programs = [] }
 
-client_walks : (sim : Bool) (script : Workload) (front : List Client) (server : ℕ) → script.servers ≤ 8 → IsWithin 1 script.servers server → client_count front server < 16
+client_walks : (sim : Bool) (script : Workload) (front : List Client) (server : ℕ) → script.servers ≤ most_servers → IsWithin 1 script.servers server → client_count front server < most_clients_of_server
     → Walks sim (Listing (script_with script front)) ((codes "client" ∷ decimal server ∷ []) ∷ []) (Listing (script_with script (front ++ without_programs server ∷ [])))
 client_walks sim script front server few within room =
     one_line sim (Listing (script_with script front)) (Listing (script_with script (front ++ without_programs server ∷ []))) _
@@ -146,7 +146,7 @@ visible_asked shape good Serializable None asks = tt
 visible_asked shape good Snapshot None asks = (refl, tt)
 visible_asked shape good isolation (Some pos) asks = (refl, (visible_decimal pos (omega (arith, asks.1, good.cap.at_most)), tt))
 
-begin_walks : (sim : Bool) (script : Workload) (mode : Mode) → IsGoodShape script.shape → 0 < length script.clients → last_program_count script.clients < 10000 → is_told script.shape.version mode.isolation ≡ true → IsMode script.shape mode
+begin_walks : (sim : Bool) (script : Workload) (mode : Mode) → IsGoodShape script.shape → 0 < length script.clients → last_program_count script.clients < most_programs → is_told script.shape.version mode.isolation ≡ true → IsMode script.shape mode
     → Walks sim (Listing script) (begin_words mode ∷ []) (Programming script (begun mode))
 begin_walks sim script mode good some room told asks =
     one_line sim (Listing script) (Programming script (begun mode)) _ (record { visible = (refl, visible_asked script.shape good mode.isolation mode.as_of asks.0); says_some = refl })
@@ -162,7 +162,7 @@ end_walks sim script program =
 
 -- commands, programs and clients
 
-command_speech : (tables : ℕ) (command : Command) → tables ≤ 255 → FitsFields command → IsCommand command → FitsTables tables command → IsSpeech (command_words command)
+command_speech : (tables : ℕ) (command : Command) → tables ≤ most_tables → FitsFields command → IsCommand command → FitsTables tables command → IsSpeech (command_words command)
 command_speech tables (Get key) few fits lawful there = record { visible = (refl, (visible_decimal key fits, tt)); says_some = refl }
 command_speech tables (Put key value) few fits lawful there = record { visible = (refl, (visible_decimal key fits, (visible_value value lawful, tt))); says_some = refl }
 command_speech tables (Del key) few fits lawful there = record { visible = (refl, (visible_decimal key fits, tt)); says_some = refl }
@@ -197,8 +197,8 @@ command_speech tables (Find table attribute n) few fits lawful there = record {
   says_some = refl;
 }
 
-command_walks : (sim : Bool) (script : Workload) (program : Program) (command : Command) → script.tables ≤ 255 → FitsFields command → IsCommand command → (is_some program.as_of ≡ true → IsReading command) → FitsTables script.tables command
-    → command_count program.commands + counts_as command ≤ 64 → Walks sim (Programming script program) (command_words command ∷ []) (Programming script (gains_command command program))
+command_walks : (sim : Bool) (script : Workload) (program : Program) (command : Command) → script.tables ≤ most_tables → FitsFields command → IsCommand command → (is_some program.as_of ≡ true → IsReading command) → FitsTables script.tables command
+    → command_count program.commands + counts_as command ≤ most_commands → Walks sim (Programming script program) (command_words command ∷ []) (Programming script (gains_command command program))
 command_walks sim script program command few fits lawful may there room =
     let reads = is_some program.as_of in
     let count = command_count program.commands in
@@ -210,8 +210,8 @@ command_walks sim script program command few fits lawful may there room =
 abbrev with_commands : Mode → List Command → Program
 with_commands mode commands = record { isolation = mode.isolation; as_of = mode.as_of; commands = commands }
 
-commands_walk : (sim : Bool) (script : Workload) (mode : Mode) (before commands : List Command) → script.tables ≤ 255 → AllByRecursion FitsFields commands → All IsCommand commands → (is_some mode.as_of ≡ true → All IsReading commands)
-    → All (FitsTables script.tables) commands → command_count before + command_count commands ≤ 64
+commands_walk : (sim : Bool) (script : Workload) (mode : Mode) (before commands : List Command) → script.tables ≤ most_tables → AllByRecursion FitsFields commands → All IsCommand commands → (is_some mode.as_of ≡ true → All IsReading commands)
+    → All (FitsTables script.tables) commands → command_count before + command_count commands ≤ most_commands
     → Walks sim (Programming script (with_commands mode before)) (map command_words commands) (Programming script (with_commands mode (before ++ commands)))
 commands_walk sim script mode before [] few fits lawful may there room = subst (λ l. Walks sim (Programming script (with_commands mode before)) [] (Programming script (with_commands mode l))) (sym (append-nil before)) (stays sim (Programming script (with_commands mode before)))
 commands_walk sim script mode before (command ∷ commands) few fits lawful may there room =
@@ -219,15 +219,15 @@ commands_walk sim script mode before (command ∷ commands) few fits lawful may 
     let all : command_count (command ∷ commands) ≡ counts_as command + command_count commands = sum_by-cons counts_as command commands in
     let one : command_count (command ∷ []) ≡ counts_as command = omega (arith, sum_by-cons counts_as command []) in
     let grown : command_count (before ++ command ∷ []) ≡ command_count before + command_count (command ∷ []) = sum_by-append counts_as before (command ∷ []) in
-    let more : command_count (before ++ command ∷ []) + command_count commands ≤ 64 = omega (arith, room, all, one, grown) in
-    let now : command_count before + counts_as command ≤ 64 = omega (arith, room, all) in
+    let more : command_count (before ++ command ∷ []) + command_count commands ≤ most_commands = omega (arith, room, all, one, grown) in
+    let now : command_count before + counts_as command ≤ most_commands = omega (arith, room, all) in
     subst (λ l. Walks sim (Programming script (with_commands mode before)) (map command_words (command ∷ commands)) (Programming script (with_commands mode l))) (append_assoc before (command ∷ []) commands)
     (then_walks sim (Programming script (with_commands mode before)) (Programming script (with_commands mode (before ++ command ∷ []))) (Programming script (with_commands mode ((before ++ command ∷ []) ++ commands))) (command_words command ∷ []) (map command_words commands)
     (command_walks sim script (with_commands mode before) command few fits.0 (All-head IsCommand command commands lawful) (λ asks. All-head IsReading command commands (may asks)) (All-head Fits command commands there) now)
     (commands_walk sim script mode (before ++ command ∷ []) commands few fits.1 (All-tail IsCommand command commands lawful) (λ asks. All-tail IsReading command commands (may asks)) (All-tail Fits command commands there) more))
 
-program_walks : (sim : Bool) (script : Workload) (program : Program) → IsGoodShape script.shape → ProgramFits program → IsProgram program → 0 < length script.clients → last_program_count script.clients < 10000
-    → is_told script.shape.version program.isolation ≡ true → IsAsOf script.shape program.as_of → script.tables ≤ 255 → All (FitsTables script.tables) program.commands
+program_walks : (sim : Bool) (script : Workload) (program : Program) → IsGoodShape script.shape → ProgramFits program → IsProgram program → 0 < length script.clients → last_program_count script.clients < most_programs
+    → is_told script.shape.version program.isolation ≡ true → IsAsOf script.shape program.as_of → script.tables ≤ most_tables → All (FitsTables script.tables) program.commands
     → Walks sim (Listing script) (program_lines program) (Listing (with_program program script))
 program_walks sim script program good fits lawful some room told asks few there =
     let commands = program.commands in
@@ -241,7 +241,7 @@ abbrev with_programs : Client → List Program → Client
 with_programs c programs = record { server = c.server; programs = programs }
 
 programs_walk : (sim : Bool) (script : Workload) (front : List Client) (server : ℕ) (before programs : List Program) → IsGoodShape script.shape → AllByRecursion ProgramFits programs → All IsProgram programs → AreTold script.shape.version (map mode_of programs)
-    → AllByRecursion (λ m. IsAsOf script.shape m.as_of) (map mode_of programs) → script.tables ≤ 255 → All (λ p. All (FitsTables script.tables) p.commands) programs → length before + length programs ≤ 10000
+    → AllByRecursion (λ m. IsAsOf script.shape m.as_of) (map mode_of programs) → script.tables ≤ most_tables → All (λ p. All (FitsTables script.tables) p.commands) programs → length before + length programs ≤ most_programs
     → Walks sim (Listing (script_with script (front ++ record { server = server; programs = before } ∷ []))) (flat_map program_lines programs)
     (Listing (script_with script (front ++ record { server = server; programs = before ++ programs } ∷ [])))
 programs_walk sim script front server before [] good fits lawful told asks numbered there few =
@@ -253,9 +253,9 @@ programs_walk sim script front server before (program ∷ programs) good fits la
     let client : Client = record { server = server; programs = before } in
     let now = script_with script (front ++ client ∷ []) in
     let next = front ++ record { server = server; programs = before ++ program ∷ [] } ∷ [] in
-    let more : length (before ++ program ∷ []) + length programs ≤ 10000 = omega (arith, few, length-append before (program ∷ [])) in
+    let more : length (before ++ program ∷ []) + length programs ≤ most_programs = omega (arith, few, length-append before (program ∷ [])) in
     let some : 0 < length (front ++ client ∷ []) = omega (arith, length-append front (client ∷ [])) in
-    let room : last_program_count (front ++ client ∷ []) < 10000 = omega (arith, few, last_program_count_is front client) in
+    let room : last_program_count (front ++ client ∷ []) < most_programs = omega (arith, few, last_program_count_is front client) in
     let changed : change_last (gains_program program) (front ++ client ∷ []) ≡ next = change_last_is (gains_program program) front client in
     let last = Listing (script_with script (front ++ record { server = server; programs = before ++ program ∷ programs } ∷ [])) in
     then_walks sim (Listing now) (Listing (script_with script next)) last (program_lines program) (flat_map program_lines programs)
@@ -266,7 +266,7 @@ programs_walk sim script front server before (program ∷ programs) good fits la
     (programs_walk sim script front server (before ++ program ∷ []) programs good fits.1 (All-tail IsProgram program programs lawful) parts.1 asks.1 numbered (All-tail Fits program programs there) more))
 
 whole_client : (sim : Bool) (script : Workload) (front : List Client) (c : Client) → IsGoodShape script.shape → ClientFits c → IsClient script.servers c → AreTold script.shape.version (home_of c).programs
-    → AllByRecursion (λ m. IsAsOf script.shape m.as_of) (home_of c).programs → script.tables ≤ 255 → ClientFitsTables script.tables c → script.servers ≤ 8 → client_count front c.server < 16
+    → AllByRecursion (λ m. IsAsOf script.shape m.as_of) (home_of c).programs → script.tables ≤ most_tables → ClientFitsTables script.tables c → script.servers ≤ most_servers → client_count front c.server < most_clients_of_server
     → Walks sim (Listing (script_with script front)) (client_lines c) (Listing (script_with script (front ++ c ∷ [])))
 whole_client sim script front c good fits lawful told asks numbered there few room =
     then_walks sim (Listing (script_with script front)) (Listing (script_with script (front ++ without_programs c.server ∷ []))) (Listing (script_with script (front ++ c ∷ [])))
@@ -277,14 +277,14 @@ whole_client sim script front c good fits lawful told asks numbered there few ro
 itself : (c : Client) → counted_at c.server c ≡ 1
 itself c = let same : (c.server == c.server) ≡ true = grind (arith, nat_tests) in ap (λ t. cond t 1 0) same
 
-has_room : (front cs : List Client) (c : Client) → client_count (front ++ c ∷ cs) c.server ≤ 16 → client_count front c.server < 16
+has_room : (front cs : List Client) (c : Client) → client_count (front ++ c ∷ cs) c.server ≤ most_clients_of_server → client_count front c.server < most_clients_of_server
 has_room front cs c few =
     let all : client_count (front ++ c ∷ cs) c.server ≡ client_count front c.server + client_count (c ∷ cs) c.server = sum_by-append (counted_at c.server) front (c ∷ cs) in
     let first : client_count (c ∷ cs) c.server ≡ counted_at c.server c + client_count cs c.server = sum_by-cons (counted_at c.server) c cs in
     omega (arith, few, all, first, itself c)
 
 clients_walk : (sim : Bool) (script : Workload) (front cs : List Client) → IsGoodShape script.shape → AllByRecursion ClientFits cs → All (IsClient script.servers) cs → All (λ c. AreTold script.shape.version (home_of c).programs) cs
-    → AskForGroups script.shape (map home_of cs) → script.tables ≤ 255 → All (ClientFitsTables script.tables) cs → script.servers ≤ 8 → ((k : ℕ) → client_count (front ++ cs) k ≤ 16)
+    → AskForGroups script.shape (map home_of cs) → script.tables ≤ most_tables → All (ClientFitsTables script.tables) cs → script.servers ≤ most_servers → ((k : ℕ) → client_count (front ++ cs) k ≤ most_clients_of_server)
     → Walks sim (Listing (script_with script front)) (flat_map client_lines cs) (Listing (script_with script (front ++ cs)))
 clients_walk sim script front [] good fits lawful told asks numbered there few counts =
     let place = Listing (script_with script front) in
@@ -296,7 +296,7 @@ clients_walk sim script front (c ∷ cs) good fits lawful told asks numbered the
     then_walks sim (Listing (script_with script front)) (Listing (script_with script (front ++ c ∷ []))) (Listing (script_with script (front ++ c ∷ cs))) (client_lines c) (flat_map client_lines cs)
     (whole_client sim script front c good fits.0 (All-head (IsClient script.servers) c cs lawful) (All-head Told c cs told) asks.0 numbered (All-head Fits c cs there) few (has_room front cs c (counts c.server)))
     (subst (λ l. Walks sim (Listing (script_with script (front ++ c ∷ []))) (flat_map client_lines cs) (Listing (script_with script l))) all
-    (clients_walk sim script (front ++ c ∷ []) cs good fits.1 (All-tail (IsClient script.servers) c cs lawful) (All-tail Told c cs told) asks.1 numbered (All-tail Fits c cs there) few (λ k. subst (λ l. client_count l k ≤ 16) (sym all) (counts k))))
+    (clients_walk sim script (front ++ c ∷ []) cs good fits.1 (All-tail (IsClient script.servers) c cs lawful) (All-tail Told c cs told) asks.1 numbered (All-tail Fits c cs there) few (λ k. subst (λ l. client_count l k ≤ most_clients_of_server) (sym all) (counts k))))
 
 pub script_walks : (sim : Bool) (script : Workload) → IsScriptSpellable script → Walks sim AtStart (script_lines script) (Listing script)
 script_walks sim script s =

@@ -8,6 +8,7 @@ use Rattle.hy_base.specs.declared.workload.Client.{Client}
 use Rattle.hy_base.specs.Script.{Workload}
 use Rattle.hy_base.specs.Shape.{is_within}
 use Rattle.hy_base.specs.Spelling.{Text, number_of}
+use Rattle.hy_base.specs.Limits.{most_servers, most_boards}
 use Rattle.hy_script.specs.Forms.{is_blank, judged_words, read_fields, read_line}
 use Rattle.hy_script.specs.Fields.{and_then, one_number, no_fields}
 use Rattle.hy_script.specs.Grammar.{Place, Shaped, Listing, last_program_count, may_tell_tables, forms_at, makes_if, served, servers_forms}
@@ -35,7 +36,7 @@ abbrev read_served : Shape → Result (ℕ × ℕ) Why → Result Place Why
 read_served shape numbers = and_then numbers (λ p. judged_words (served shape p.0 p.1))
 
 served_leads : (shape : Shape) (numbers : Result (ℕ × ℕ) Why) → read_served shape numbers ≡ leading (listing_of shape) (and_then numbers servers_within)
-served_leads shape (Ok p) = servers_test (is_within 1 8 p.0 && is_within 1 64 p.1) shape (record { servers = p.0; keeps = p.1 })
+served_leads shape (Ok p) = servers_test (is_within 1 most_servers p.0 && is_within 1 most_boards p.1) shape (record { servers = p.0; keeps = p.1 })
 served_leads shape (Err why) = refl
 
 -- one number, and one board

@@ -16,6 +16,7 @@ use Rattle.hy_base.specs.Entry.{is_told}
 use Rattle.hy_base.specs.Script.{Workload, ClientFitsTables, FitsTables, IsAsOf, IsProgram, IsScript, client_count, command_count, mode_of}
 use Rattle.hy_base.specs.Shape.{IsGoodShape, IsWithin}
 use Rattle.hy_base.specs.Spelling.{Text}
+use Rattle.hy_base.specs.Limits.{most_tables, most_programs, most_clients_of_server}
 use Rattle.hy_base.proofs.ListLemmas.{all_push}
 use Rattle.hy_script.specs.Grammar.{Place, AtStart, Shaped, Listing, Programming, Scheduled, change_last, gains_program, last_program_count, with_client, with_program, with_tables}
 use Rattle.hy_script.specs.ScriptLaws.{ClientFits, FitsFields, IsSaidBy, IsScriptSpellable, ProgramFits, SpellsWhatItReads, plain, words_by_line}
@@ -59,7 +60,7 @@ said (Scheduled script start) = script_lines script
 record IsOpenProgram (script : Workload) (program : Program) : Type 0 where
   pub script_is : IsScriptSpellable script
   pub some : 0 < length script.clients
-  pub room : last_program_count script.clients < 10000
+  pub room : last_program_count script.clients < most_programs
   pub lawful : IsProgram program
   pub told : is_told script.shape.version program.isolation ≡ true
   pub asks : IsAsOf script.shape program.as_of
@@ -121,7 +122,7 @@ module _ (sim : Bool) (p : ℕ × Text) (next : Place) where
 
 -- between programs
 
-spellable_client : (script : Workload) (server : ℕ) → IsScriptSpellable script → IsWithin 1 script.servers server → client_count script.clients server < 16 → IsScriptSpellable (with_client server script)
+spellable_client : (script : Workload) (server : ℕ) → IsScriptSpellable script → IsWithin 1 script.servers server → client_count script.clients server < most_clients_of_server → IsScriptSpellable (with_client server script)
 spellable_client script server s within room = record {
   lawful = client_kept script.shape script.servers script.keeps script.tables server script.clients s.lawful within room;
   clients = all_push ClientFits script.clients (record { server = server; programs = [] }) s.clients tt;
@@ -133,7 +134,7 @@ client_said script server words are =
     ∙ sym (append_assoc (head_lines script) (flat_map client_lines script.clients) ((codes "client" ∷ decimal server ∷ []) ∷ []))
     ∙ ap (λ w. script_lines script ++ w ∷ []) (sym are)
 
-spellable_tables : (script : Workload) (tables : ℕ) → IsScriptSpellable script → IsWithin 1 255 tables → script.clients ≡ [] → IsScriptSpellable (with_tables tables script)
+spellable_tables : (script : Workload) (tables : ℕ) → IsScriptSpellable script → IsWithin 1 most_tables tables → script.clients ≡ [] → IsScriptSpellable (with_tables tables script)
 spellable_tables script tables s within none = record {
   lawful = record {
     shape = s.lawful.shape;
@@ -150,7 +151,7 @@ spellable_tables script tables s within none = record {
 }
 
 -- the number of tables ends a script without clients
-tables_said : (script : Workload) (tables : ℕ) (words : List Text) → words ≡ codes "tables" ∷ decimal tables ∷ [] → IsWithin 1 255 tables → script.tables ≡ 0 → script.clients ≡ []
+tables_said : (script : Workload) (tables : ℕ) (words : List Text) → words ≡ codes "tables" ∷ decimal tables ∷ [] → IsWithin 1 most_tables tables → script.tables ≡ 0 → script.clients ≡ []
     → script_lines (with_tables tables script) ≡ script_lines script ++ words ∷ []
 tables_said script tables words are within first none =
     let shape = spelled_shape script.shape in
@@ -229,7 +230,7 @@ last_of (c ∷ d ∷ cs) some = let more = last_of (d ∷ cs) (omega arith) in (
 program_lawful : (script : Workload) (program : Program) → IsScript script → IsOpenProgram script program → IsScript (with_program program script)
 program_lawful script program lawful s =
     let last = last_of script.clients s.some in
-    let room : length last.1.programs < 10000 = omega (arith, s.room, ap last_program_count last.2, last_program_count_is last.0 last.1) in
+    let room : length last.1.programs < most_programs = omega (arith, s.room, ap last_program_count last.2, last_program_count_is last.0 last.1) in
     subst (λ cs. IsScript (script_with script cs)) (sym (ap (change_last (gains_program program)) last.2 ∙ change_last_is (gains_program program) last.0 last.1))
     (program_kept script.shape script.servers script.keeps script.tables last.0 last.1 program (subst (λ cs. IsScript (script_with script cs)) last.2 lawful) room s.lawful s.told s.asks s.fits_tables)
 

@@ -6,7 +6,7 @@ use Rattle.std.specs.Option.{is_some}
 use Rattle.std.proofs.lemmas.Bool.{and_from, and_parts, eq-eqb, eqb-true, ne_eqb}
 use Rattle.std.proofs.lemmas.Slice.Eq.{bytes_eq-Decides}
 use Rattle.hy_base.specs.declared.layout.Shape.{Shape}
-use Rattle.hy_base.specs.Shape.{IsGoodShape, IsWithin, has_horizon, is_horizon, is_within, newest_version, shape_fault}
+use Rattle.hy_base.specs.Shape.{IsGoodShape, IsWithin, has_horizon, is_horizon, is_within, largest_cap, largest_group, largest_window, newest_version, shape_fault}
 use Rattle.hy_base.specs.Spelling.{Text, number_of}
 use Rattle.hy_base.proofs.ShapeLemmas.{IsWithin-test, is_within-true, horizon_good}
 use Rattle.hy_script.specs.Forms.{Meaning, OtherFourth, is_blank, judged_words, read_fields, read_line}
@@ -25,16 +25,16 @@ passed : {A E : Type 0} (t : Bool) (x : Result A E) (e : E) → t ≡ true → i
 passed true x e is ok = ok
 passed false x e is ok = cc
 
-horizon_passes : (s : Shape) (h : Option ℕ) → IfSome h (IsWithin (s.group * s.window) 2147483648) → is_some h ≡ has_horizon s.version → is_horizon s h ≡ true
+horizon_passes : (s : Shape) (h : Option ℕ) → IfSome h (IsWithin (s.group * s.window) largest_cap) → is_some h ≡ has_horizon s.version → is_horizon s h ≡ true
 horizon_passes s None within there = ap not (sym there)
-horizon_passes s (Some h) within there = and_from (has_horizon s.version) (is_within (s.group * s.window) 2147483648 h) (sym there) (IsWithin-test (s.group * s.window) 2147483648 h within)
+horizon_passes s (Some h) within there = and_from (has_horizon s.version) (is_within (s.group * s.window) largest_cap h) (sym there) (IsWithin-test (s.group * s.window) largest_cap h within)
 
 pub good_passes : (s : Shape) → IsGoodShape s → is_ok (shape_fault s) ≡ true
 good_passes s good =
-    passed (is_within 1 8 s.group) _ _ (IsWithin-test 1 8 s.group good.group)
-    (passed (is_within 1 64 s.window) _ _ (IsWithin-test 1 64 s.window good.window)
-    (passed (is_within s.group 2147483648 s.cap && (s.cap % s.group == 0)) _ _
-    (and_from (is_within s.group 2147483648 s.cap) (s.cap % s.group == 0) (IsWithin-test s.group 2147483648 s.cap good.cap) (eq-eqb (s.cap % s.group) 0 good.whole_groups))
+    passed (is_within 1 largest_group s.group) _ _ (IsWithin-test 1 largest_group s.group good.group)
+    (passed (is_within 1 largest_window s.window) _ _ (IsWithin-test 1 largest_window s.window good.window)
+    (passed (is_within s.group largest_cap s.cap && (s.cap % s.group == 0)) _ _
+    (and_from (is_within s.group largest_cap s.cap) (s.cap % s.group == 0) (IsWithin-test s.group largest_cap s.cap good.cap) (eq-eqb (s.cap % s.group) 0 good.whole_groups))
     (passed (is_within 1 newest_version s.version) _ _ (IsWithin-test 1 newest_version s.version good.version)
     (passed (is_horizon s s.horizon) (Ok tt) _ (horizon_passes s s.horizon good.horizon good.versioned) refl))))
 
@@ -44,16 +44,16 @@ met false x e ok = cc
 
 pub passes_good : (s : Shape) → is_ok (shape_fault s) ≡ true → IsGoodShape s
 passes_good s ok =
-    let group = met (is_within 1 8 s.group) _ _ ok in
-    let window = met (is_within 1 64 s.window) _ _ group.1 in
-    let cap = met (is_within s.group 2147483648 s.cap && (s.cap % s.group == 0)) _ _ window.1 in
+    let group = met (is_within 1 largest_group s.group) _ _ ok in
+    let window = met (is_within 1 largest_window s.window) _ _ group.1 in
+    let cap = met (is_within s.group largest_cap s.cap && (s.cap % s.group == 0)) _ _ window.1 in
     let version = met (is_within 1 newest_version s.version) _ _ cap.1 in
     let horizon = met (is_horizon s s.horizon) (Ok tt) _ version.1 in
-    let whole = and_parts (is_within s.group 2147483648 s.cap) (s.cap % s.group == 0) cap.0 in
+    let whole = and_parts (is_within s.group largest_cap s.cap) (s.cap % s.group == 0) cap.0 in
     record {
-      group = is_within-true 1 8 s.group group.0;
-      window = is_within-true 1 64 s.window window.0;
-      cap = is_within-true s.group 2147483648 s.cap whole.0;
+      group = is_within-true 1 largest_group s.group group.0;
+      window = is_within-true 1 largest_window s.window window.0;
+      cap = is_within-true s.group largest_cap s.cap whole.0;
       whole_groups = eqb-true (s.cap % s.group) 0 whole.1;
       version = is_within-true 1 newest_version s.version version.0;
       horizon = (horizon_good s horizon.0).0;

@@ -30,9 +30,9 @@ two_boards : place_after false (Shaped pairs) (2, codes "servers 3 2") ≡ Ok (L
 unfolding digits
 two_boards = refl
 
-most_boards : place_after false (Shaped pairs) (2, codes "servers 8 64") ≡ Ok (Listing (keeping 8 64 []))
+takes_64_boards : place_after false (Shaped pairs) (2, codes "servers 8 64") ≡ Ok (Listing (keeping 8 64 []))
 unfolding digits
-most_boards = refl
+takes_64_boards = refl
 
 too_many_boards : place_after false (Shaped pairs) (2, codes "servers 1 65") ≡ Err Range
 unfolding digits

@@ -28,9 +28,9 @@ one_table : place_after false (Listing (tabled 0 [])) (3, codes "tables 1") ≡ 
 unfolding digits
 one_table = refl
 
-most_tables : place_after false (Listing (tabled 0 [])) (3, codes "tables 255") ≡ Ok (Listing (tabled 255 []))
+takes_255_tables : place_after false (Listing (tabled 0 [])) (3, codes "tables 255") ≡ Ok (Listing (tabled 255 []))
 unfolding digits
-most_tables = refl
+takes_255_tables = refl
 
 no_table : place_after false (Listing (tabled 0 [])) (3, codes "tables 0") ≡ Err Range
 unfolding digits

@@ -17,6 +17,7 @@ use Rattle.hy_base.specs.declared.record.Isolation.TheVariants.{Serializable, Sn
 use Rattle.hy_base.specs.Entry.{is_told}
 use Rattle.hy_base.specs.Value.{is_value}
 use Rattle.hy_base.specs.Spelling.{Text}
+use Rattle.hy_base.specs.Limits.{most_boards, most_clients_of_server, most_commands, most_found, most_programs, most_servers, most_tables}
 use Rattle.hy_script.specs.Forms.{Meaning, LineForm, Alone, OneNumber, TwoNumbers, ThreeNumbers, NumberAndText}
 use Rattle.hy_script.specs.Forms.{ThreeNumbersAndText, FixedWord, WordAndNumber, OtherFourth, FixedFourth, read_line}
 use Rattle.hy_script.specs.declared.why.Why.{Why}
@@ -110,7 +111,7 @@ shape_forms =
 -- so many servers, each of which keeps so many of its last boards
 abbrev pub served : Shape → ℕ → ℕ → Meaning Place
 served shape servers keeps =
-    makes_if ((is_within 1 8 servers && is_within 1 64 keeps, Range) ∷ [])
+    makes_if ((is_within 1 most_servers servers && is_within 1 most_boards keeps, Range) ∷ [])
     (Listing (record { shape = shape; servers = servers; keeps = keeps; tables = 0; clients = [] }))
 
 -- servers S, with one board each; and servers S K
@@ -122,20 +123,20 @@ servers_forms shape =
 -- tables N
 abbrev pub tables_form : Workload → LineForm Place
 tables_form script =
-    OneNumber "tables" (λ tables. makes_if ((is_within 1 255 tables, Range) ∷ []) (Listing (with_tables tables script)))
+    OneNumber "tables" (λ tables. makes_if ((is_within 1 most_tables tables, Range) ∷ []) (Listing (with_tables tables script)))
 
 -- client S
 abbrev pub client_form : Workload → LineForm Place
 client_form script =
     OneNumber "client" (λ server.
-    makes_if ((is_within 1 script.servers server, Range) ∷ (nat_lt (client_count script.clients server) 16, Count) ∷ [])
+    makes_if ((is_within 1 script.servers server, Range) ∷ (nat_lt (client_count script.clients server) most_clients_of_server, Count) ∷ [])
     (Listing (with_client server script)))
 
 -- a further program of the last client
 abbrev pub begins_program : Workload → Mode → Meaning Place
 begins_program script mode =
     makes_if
-    ((is_as_of script.shape mode.as_of, Range) ∷ (nat_lt (last_program_count script.clients) 10000, Count)
+    ((is_as_of script.shape mode.as_of, Range) ∷ (nat_lt (last_program_count script.clients) most_programs, Count)
     ∷ (is_told script.shape.version mode.isolation, Version) ∷ [])
     (Programming script (begun mode))
 
@@ -155,10 +156,10 @@ end_form script program = Alone "end" (makes (Listing (with_program program scri
 abbrev pub schedule_form : ℕ → Workload → LineForm Place
 schedule_form number script = Alone "schedule" (makes (Scheduled script number))
 
--- a further command of a program, with tests of its own: all of them count as 64 at most
+-- a further command of a program, with tests of its own: all of them count as most_commands at most
 abbrev pub gains : Workload → Program → Command → List (Bool × Why) → Meaning Place
 gains script program command tests =
-    makes_if (tests ++ (nat_le (command_count program.commands + counts_as command) 64, Count) ∷ [])
+    makes_if (tests ++ (nat_le (command_count program.commands + counts_as command) most_commands, Count) ∷ [])
     (Programming script (gains_command command program))
 
 -- a row of one of so many tables, and its attribute; and a text that a row may have
@@ -173,13 +174,13 @@ is_row_text text = is_value text && nat_le (length text) text_limit
 
 -- what may be looked for: an attribute in one of so many tables, and so many rows of it
 abbrev pub is_search : ℕ → ℕ → ℕ → ℕ → Bool
-is_search tables table attribute n = is_within 1 tables table && (nat_lt attribute attribute_limit && is_within 1 1000 n)
+is_search tables table attribute n = is_within 1 tables table && (nat_lt attribute attribute_limit && is_within 1 most_found n)
 
 -- get K, scan LO HI N
 abbrev pub reading_forms : Workload → Program → List (LineForm Place)
 reading_forms script program =
     OneNumber "get" (λ key. gains script program (Get key) []) ∷ ThreeNumbers "scan"
-    (λ lo hi n. gains script program (Scan lo hi n) ((is_within 1 1000 n, Range) ∷ (nat_le lo hi, Order) ∷ [])) ∷ []
+    (λ lo hi n. gains script program (Scan lo hi n) ((is_within 1 most_found n, Range) ∷ (nat_le lo hi, Order) ∷ [])) ∷ []
 
 -- put K V, del K, add K N, where K is no key of a table
 abbrev pub writing_forms : Workload → Program → List (LineForm Place)

@@ -5,6 +5,7 @@ use Rattle.hy_base.specs.declared.workload.Client.{Client as ScriptClient}
 use Rattle.hy_base.specs.Shape.{IsWithin, IsGoodShape}
 use Rattle.hy_base.specs.Entry.{is_told}
 use Rattle.hy_base.specs.Script.{Workload, FitsTables, IsAsOf, IsCommand, IsProgram, IsReading, client_count, counts_as}
+use Rattle.hy_base.specs.Limits.{most_clients_of_server, most_commands, most_programs, most_tables}
 use Rattle.hy_base.specs.declared.layout.Shape.{Shape}
 use Rattle.hy_base.specs.declared.record.Isolation.TheVariants.{Serializable}
 use Rattle.hy_base.specs.declared.workload.Mode.{Mode}
@@ -65,7 +66,7 @@ IsPlace (ShapedCode shape) = IsGoodShape shape
 IsPlace (ListingCode script) = ⊤
 IsPlace (ProgrammingCode script program) =
     (0 < length script.clients)
-    × (last_program_count script.clients < 10000)
+    × (last_program_count script.clients < most_programs)
     × (is_told script.shape.version program.isolation ≡ true)
     × IsAsOf script.shape program.as_of
     × IsProgram program
@@ -81,11 +82,11 @@ IsMode shape mode = IsAsOf shape mode.as_of × (is_some mode.as_of ≡ true → 
 
 -- what a line between programs tells, in a script of a shape
 abbrev pub IsClientListed : Shape → ℕ → List ScriptClient → ListingLine → Type 0
-IsClientListed shape servers clients (Tables tables) = IsWithin 1 255 tables × (clients ≡ [])
-IsClientListed shape servers clients (Client server) = IsWithin 1 servers server × (client_count clients server < 16)
+IsClientListed shape servers clients (Tables tables) = IsWithin 1 most_tables tables × (clients ≡ [])
+IsClientListed shape servers clients (Client server) = IsWithin 1 servers server × (client_count clients server < most_clients_of_server)
 IsClientListed shape servers clients (Begin mode) =
     (0 < length clients)
-    × (last_program_count clients < 10000)
+    × (last_program_count clients < most_programs)
     × (is_told shape.version mode.isolation ≡ true)
     × IsMode shape mode
 IsClientListed shape servers clients Schedule = ⊤
@@ -97,5 +98,5 @@ IsNextLine tables reads count (Next command) =
     IsCommand command
     × (reads ≡ true → IsReading command)
     × FitsTables tables command
-    × (count + counts_as command ≤ 64)
+    × (count + counts_as command ≤ most_commands)
 IsNextLine tables reads count End = ⊤

@@ -4,23 +4,9 @@ ghost use Rattle.hy_base.specs.Script.{command_count, counts_as};
 ghost use Rattle.hy_base.specs.Shape.{IsWithin};
 ghost use Rattle.hy_base.specs.Tables.{attribute_limit, is_table_key, row_limit};
 ghost use Rattle.hy_script.specs.Grammar.{is_row, is_row_with, is_search};
+ghost use Rattle.hy_base.specs.Limits.{most_commands, most_found};
 
-use hy_base::{Command, Key};
-
-/// How many commands the commands of a program may count as.
-pub const MOST_COMMANDS: usize = 64;
-
-/// How many bytes the text of a row may have.
-pub const TEXT_LIMIT: usize = 200;
-
-// How many rows a table may have.
-const ROW_LIMIT: u64 = 1 << 24;
-
-// How many attributes there are.
-const ATTRIBUTE_LIMIT: u64 = 1 << 31;
-
-// How many keys a table has.
-const TABLE_KEYS: Key = 1 << 56;
+use hy_base::{ATTRIBUTE_LIMIT, Command, Key, MOST_FOUND, ROW_LIMIT, TABLE_KEYS};
 
 /// Whether a key belongs to one of so many tables.
 pub fn is_table_key(tables: u8, key: Key) -> bool
@@ -49,9 +35,9 @@ pub fn is_row_with(tables: u8, table: u64, row: u64, attribute: u64) -> bool
 /// Whether a table is one of so many, and so many rows of an attribute may be looked for there.
 pub fn is_search(tables: u8, table: u64, attribute: u64, n: u64) -> bool
     ensures exact { result ≡ is_search tables table attribute n }
-    ensures within { result ≡ true → IsWithin 1 tables table × (attribute < attribute_limit) × IsWithin 1 1000 n }
+    ensures within { result ≡ true → IsWithin 1 tables table × (attribute < attribute_limit) × IsWithin 1 most_found n }
 {
-    1 <= table && table <= tables as u64 && attribute < ATTRIBUTE_LIMIT && 1 <= n && n <= 1000
+    1 <= table && table <= tables as u64 && attribute < ATTRIBUTE_LIMIT && 1 <= n && n <= MOST_FOUND
 }
 
 /// How many commands a command counts as.
@@ -68,7 +54,7 @@ pub fn counts_as(command: &Command) -> usize
 
 /// How many commands these commands count as.
 pub fn command_count(commands: &[Command]) -> usize
-    requires { command_count commands.now ≤ 64 }
+    requires { command_count commands.now ≤ most_commands }
     ensures { result ≡ command_count commands.now }
 {
     let mut count = 0;

@@ -14,22 +14,22 @@ ghost use Rattle.hy_script.specs.ScriptFields.{one_more_if, put_fields, del_fiel
 ghost use Rattle.hy_script.specs.ScriptFields.{cell_fields, find_fields, writing_line, program_line, TellsField};
 ghost use Rattle.hy_script.specs.Lines.{words_of};
 ghost use Rattle.hy_base.specs.declared.workload.Command.TheVariants.{Get};
-ghost use Rattle.hy_base.specs.Limits.{IsServerNumber};
+ghost use Rattle.hy_base.specs.Limits.{IsServerNumber, most_boards, most_commands, most_programs, most_tables};
 ghost use Rattle.hy_base.specs.Tables.{is_table_key};
 ghost use Rattle.hy_script.specs.declared.script.ListingLine.TheVariants.{Tables, Begin, Schedule};
 ghost use Rattle.hy_script.specs.declared.script.ProgramLine.TheVariants.{End};
 ghost use Rattle.hy_script.specs.Grammar.{plain_mode};
 
 use crate::Why;
-use crate::ranges::{
-    MOST_COMMANDS, TEXT_LIMIT, counts_as, is_row, is_row_with, is_search, is_table_key,
-};
+use crate::ranges::{counts_as, is_row, is_row_with, is_search, is_table_key};
 use crate::words::{
     Fields, cut_fields, four_numbers, no_fields, number_and_text, one_number, three_numbers,
     three_numbers_and_text, two_numbers,
 };
 use hy_base::{
-    Client, Command, Isolation, Key, Mode, Pos, Shape, Value, ValueError, tells_isolation,
+    Client, Command, Isolation, Key, MOST_BOARDS, MOST_CLIENTS_OF_SERVER, MOST_COMMANDS,
+    MOST_FOUND, MOST_PROGRAMS, MOST_SERVERS, MOST_TABLES, Mode, Pos, Shape, TEXT_LIMIT, Value,
+    ValueError, tells_isolation,
 };
 use std::alloc::{AllocError, Global};
 
@@ -221,10 +221,14 @@ fn servers_numbers(fields: Fields<'_>) -> Result<(u64, u64), Why>
 
 fn servers_of(fields: Fields<'_>) -> Result<ToldServers, Why>
     ensures exact { (words : List (List ℕ)) → HasFields fields.entry words → result ≡ servers_fields words }
-    ensures range { IfOk result (λ told. IsServerNumber told.servers × IsWithin 1 64 told.keeps) }
+    ensures range { IfOk result (λ told. IsServerNumber told.servers × IsWithin 1 most_boards told.keeps) }
 {
     let (servers, keeps) = servers_numbers(fields)?;
-    if 1 <= servers && servers <= 8 && 1 <= keeps && keeps <= 64 {
+    if 1 <= servers
+        && servers <= u64::from(MOST_SERVERS)
+        && 1 <= keeps
+        && keeps <= u64::from(MOST_BOARDS)
+    {
         Ok(ToldServers {
             servers: servers as u8,
             keeps: keeps as u8,
@@ -237,7 +241,7 @@ fn servers_of(fields: Fields<'_>) -> Result<ToldServers, Why>
 /// The number of servers, and how many boards each keeps.
 pub fn read_servers(line: &[u8]) -> Result<ToldServers, Why>
     ensures exact { result ≡ servers_line (words_of line.now) }
-    ensures range { IfOk result (λ told. IsServerNumber told.servers × IsWithin 1 64 told.keeps) }
+    ensures range { IfOk result (λ told. IsServerNumber told.servers × IsWithin 1 most_boards told.keeps) }
 {
     let (word, fields) = cut_fields(line);
     if word == b"servers".as_slice() {
@@ -258,9 +262,9 @@ fn count_of(clients: &[Client], server: u8) -> usize
 
 fn tables_of(fields: Fields<'_>) -> Result<ListingLine, Why>
     ensures exact { (words : List (List ℕ)) → HasFields fields.entry words → result ≡ tables_fields words }
-    ensures fits { IfOk result (λ l. (tables : ℕ) × (l ≡ Tables tables) × IsWithin 1 255 tables) }
+    ensures fits { IfOk result (λ l. (tables : ℕ) × (l ≡ Tables tables) × IsWithin 1 most_tables tables) }
 {
-    let tables = within(1, 255, fields)?;
+    let tables = within(1, MOST_TABLES, fields)?;
     Ok(ListingLine::Tables(tables))
 }
 
@@ -271,7 +275,7 @@ fn client_of(servers: u8, clients: &[Client], fields: Fields<'_>) -> Result<List
     ensures fits { (shape : Shape) → IfOk result (IsClientListed shape servers clients.now) }
 {
     let server = within(1, servers, fields)?;
-    if count_of(clients, server) < 16 {
+    if count_of(clients, server) < MOST_CLIENTS_OF_SERVER {
         Ok(ListingLine::Client(server))
     } else {
         Err(Why::Count)
@@ -342,9 +346,9 @@ fn is_told(version: u8, isolation: Isolation) -> bool
 // A program that asks for this, after so many of its client.
 fn one_more_program(version: u8, count: usize, mode: Mode) -> Result<ListingLine, Why>
     ensures exact { result ≡ one_more_program version count mode }
-    ensures fits { IfOk result (λ l. (l ≡ Begin mode) × (count < 10000) × (is_told version mode.isolation ≡ true)) }
+    ensures fits { IfOk result (λ l. (l ≡ Begin mode) × (count < most_programs) × (is_told version mode.isolation ≡ true)) }
 {
-    if count < 10000 {
+    if count < MOST_PROGRAMS {
         if is_told(version, mode.isolation) {
             Ok(ListingLine::Begin(mode))
         } else {
@@ -361,7 +365,7 @@ fn begin_of(shape: Shape, last: &Client, fields: Fields<'_>) -> Result<ListingLi
         → result ≡ and_then (mode_fields shape words) (one_more_program shape.version (length last.now.programs)) }
     ensures fits { IfOk result (λ l. (mode : Mode)
         × (l ≡ Begin mode)
-        × (length last.now.programs < 10000)
+        × (length last.now.programs < most_programs)
         × (is_told shape.version mode.isolation ≡ true)
         × IsMode shape mode) }
 {
@@ -384,7 +388,7 @@ fn scan_of(fields: Fields<'_>) -> Result<Command, Why>
     ensures fits { (tables : ℕ) → IfOk result (FitsTables tables) }
 {
     let (lo, hi, n) = three_numbers(fields)?;
-    if n < 1 || n > 1000 {
+    if n < 1 || n > MOST_FOUND {
         return Err(Why::Range);
     }
     if lo <= hi {
@@ -458,12 +462,12 @@ pub(crate) fn read_listing(
 // A further command of a program whose commands count as so many.
 fn one_more(count: usize, command: Command) -> Result<ProgramLine, Why>
     requires lawful { IsCommand command }
-    requires few { count ≤ 64 }
+    requires few { count ≤ most_commands }
     ensures exact { result ≡ one_more count command }
     ensures fits { (tables : ℕ) (reads : Bool) → (reads ≡ true → IsReading command) → FitsTables tables command
         → IfOk result (IsNextLine tables reads count) }
 {
-    if count + counts_as(&command) <= MOST_COMMANDS {
+    if count + counts_as(&command) <= usize::from(MOST_COMMANDS) {
         Ok(ProgramLine::Next(command))
     } else {
         Err(Why::Count)
@@ -474,7 +478,7 @@ fn one_more(count: usize, command: Command) -> Result<ProgramLine, Why>
 fn one_write(tables: u8, count: usize, key: Key, command: Command) -> Result<ProgramLine, Why>
     requires lawful { IsCommand command }
     requires fits { is_table_key tables key ≡ false → FitsTables tables command }
-    requires few { count ≤ 64 }
+    requires few { count ≤ most_commands }
     ensures exact { result ≡ one_more_if (not (is_table_key tables key)) count command }
     ensures fits { IfOk result (IsNextLine tables false count) }
 {
@@ -485,7 +489,7 @@ fn one_write(tables: u8, count: usize, key: Key, command: Command) -> Result<Pro
 }
 
 fn get_of(count: usize, fields: Fields<'_>) -> Result<ProgramLine, LineError>
-    requires { count ≤ 64 }
+    requires { count ≤ most_commands }
     ensures exact { (words : List (List ℕ)) → HasFields fields.entry words
         → TellsField result (and_then (one_number words) (λ key. one_more count (Get key))) }
     ensures fits { (tables : ℕ) (reads : Bool) → IfOk result (IsNextLine tables reads count) }
@@ -495,7 +499,7 @@ fn get_of(count: usize, fields: Fields<'_>) -> Result<ProgramLine, LineError>
 }
 
 fn del_of(tables: u8, count: usize, fields: Fields<'_>) -> Result<ProgramLine, LineError>
-    requires { count ≤ 64 }
+    requires { count ≤ most_commands }
     ensures exact { (words : List (List ℕ)) → HasFields fields.entry words → TellsField result (del_fields tables count words) }
     ensures fits { IfOk result (IsNextLine tables false count) }
 {
@@ -505,7 +509,7 @@ fn del_of(tables: u8, count: usize, fields: Fields<'_>) -> Result<ProgramLine, L
 }
 
 fn add_of(tables: u8, count: usize, fields: Fields<'_>) -> Result<ProgramLine, LineError>
-    requires { count ≤ 64 }
+    requires { count ≤ most_commands }
     ensures exact { (words : List (List ℕ)) → HasFields fields.entry words → TellsField result (add_fields tables count words) }
     ensures fits { IfOk result (IsNextLine tables false count) }
 {
@@ -515,7 +519,7 @@ fn add_of(tables: u8, count: usize, fields: Fields<'_>) -> Result<ProgramLine, L
 }
 
 fn counted_scan(count: usize, fields: Fields<'_>) -> Result<ProgramLine, LineError>
-    requires { count ≤ 64 }
+    requires { count ≤ most_commands }
     ensures exact { (words : List (List ℕ)) → HasFields fields.entry words
         → TellsField result (and_then (scan_fields words) (one_more count)) }
     ensures fits { (tables : ℕ) (reads : Bool) → IfOk result (IsNextLine tables reads count) }
@@ -539,7 +543,7 @@ fn put_of(
     count: usize,
     fields: Fields<'_>,
 ) -> Result<ProgramLine, LineError>
-    requires { count ≤ 64 }
+    requires { count ≤ most_commands }
     ensures exact { (words : List (List ℕ)) → HasFields fields.entry words → TellsField result (put_fields tables count words) }
     ensures fits { IfOk result (IsNextLine tables false count) }
 {
@@ -555,7 +559,7 @@ fn row_of(
     count: usize,
     fields: Fields<'_>,
 ) -> Result<ProgramLine, LineError>
-    requires { count ≤ 64 }
+    requires { count ≤ most_commands }
     ensures exact { (words : List (List ℕ)) → HasFields fields.entry words → TellsField result (row_fields tables count words) }
     ensures fits { IfOk result (IsNextLine tables false count) }
 {
@@ -575,7 +579,7 @@ fn row_of(
 }
 
 fn unrow_of(tables: u8, count: usize, fields: Fields<'_>) -> Result<ProgramLine, LineError>
-    requires { count ≤ 64 }
+    requires { count ≤ most_commands }
     ensures exact { (words : List (List ℕ)) → HasFields fields.entry words
         → TellsField result (unrow_fields tables count words) }
     ensures fits { IfOk result (IsNextLine tables false count) }
@@ -593,7 +597,7 @@ fn unrow_of(tables: u8, count: usize, fields: Fields<'_>) -> Result<ProgramLine,
 }
 
 fn cell_of(tables: u8, count: usize, fields: Fields<'_>) -> Result<ProgramLine, LineError>
-    requires { count ≤ 64 }
+    requires { count ≤ most_commands }
     ensures exact { (words : List (List ℕ)) → HasFields fields.entry words
         → TellsField result (cell_fields tables count words) }
     ensures fits { (reads : Bool) → IfOk result (IsNextLine tables reads count) }
@@ -611,7 +615,7 @@ fn cell_of(tables: u8, count: usize, fields: Fields<'_>) -> Result<ProgramLine, 
 }
 
 fn find_of(tables: u8, count: usize, fields: Fields<'_>) -> Result<ProgramLine, LineError>
-    requires { count ≤ 64 }
+    requires { count ≤ most_commands }
     ensures exact { (words : List (List ℕ)) → HasFields fields.entry words
         → TellsField result (find_fields tables count words) }
     ensures fits { (reads : Bool) → IfOk result (IsNextLine tables reads count) }
@@ -637,7 +641,7 @@ fn read_writing_line(
     word: &[u8],
     fields: Fields<'_>,
 ) -> Result<ProgramLine, LineError>
-    requires { count ≤ 64 }
+    requires { count ≤ most_commands }
     ensures exact { (words : List (List ℕ)) → HasFields fields.entry words
         → TellsField result (writing_line (nat_lt 0 tables) tables count word.now words) }
     ensures fits { IfOk result (IsNextLine tables false count) }
@@ -669,7 +673,7 @@ pub fn read_program_line(
     count: usize,
     line: &[u8],
 ) -> Result<ProgramLine, LineError>
-    requires { count ≤ 64 }
+    requires { count ≤ most_commands }
     ensures exact { TellsField result (program_line tables reads count (words_of line.now)) }
     ensures fits { IfOk result (IsNextLine tables reads count) }
 {

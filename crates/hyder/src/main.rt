@@ -21,7 +21,7 @@ ghost use Rattle.hy_run.specs.Answering.{IsCall, ends_at};
 ghost use Rattle.hy_run.specs.Output.{status_number};
 ghost use Rattle.hy_run.specs.Over.{over};
 
-use hy_base::Words;
+use hy_cli::Words;
 use hy_disk::Disk;
 use hy_file::FileDisk;
 use hy_io::{Sink, Source, StdSink, StdSource};

@@ -1,5 +1,4 @@
-use hy_base::Words;
-use hy_cli::{CliError, Line, parse};
+use hy_cli::{CliError, Line, Words, parse};
 use std::alloc::{AllocError, Global};
 use std::process::Abort;
 use std::test::Fail;

@@ -4,7 +4,8 @@ ghost use Rattle.std.specs.Prelude.{◌≡◌, IfOk};
 ghost use Rattle.hy_disk.specs.Content.{settled};
 ghost use Rattle.hy_mem.specs.MemDisk.{content_of, HasRoom};
 
-use hy_base::{Pos, Words};
+use hy_base::Pos;
+use hy_cli::Words;
 use hy_disk::{Disk, Tuned};
 use hy_io::{MemSink, MemSource};
 use hy_mem::MemDisk;

@@ -3,6 +3,7 @@ ghost use Rattle.std.specs.Prelude.{◌≡◌, ◌+◌, ◌<◌, ◌≤◌, All,
 ghost use Rattle.hy_base.specs.Shape.{IsGoodShape, IsWithin};
 ghost use Rattle.hy_hub.specs.Calls.{IsIdle};
 ghost use Rattle.run_tests.specs.Trial.{home_at, trial_homes, IsTrial, IsTrialShape, IsPutOf, TakesAll};
+ghost use Rattle.hy_hub.specs.Origin.{hub_parts};
 
 use crate::calls::empty;
 use crate::courses::course_of;
@@ -89,11 +90,16 @@ pub fn hub_on<D: Disk + Drop, B: Since>(
     requires least { B.least ≡ 0 }
     requires version { B.version ≡ shape.version }
     ensures trial { IfOk result (λ r. IsTrial r.0 shape r.1) }
-    ensures parts { IfOk result (λ r. (r.0.parts ≡ 129) × (r.1.parts ≡ 129)) }
+    ensures parts { IfOk result (λ r. (r.0.parts ≡ hub_parts) × (r.1.parts ≡ hub_parts)) }
 {
     let homes = homes(alloc)?;
-    let start = Roller::new(alloc, shape)?;
-    match Hub::new(alloc, log, Vec::new(alloc), start, 2, homes, 1) {
+    let setup = Setup {
+        start: Roller::new(alloc, shape)?,
+        servers: 2,
+        homes,
+        keeps: 1,
+    };
+    match Hub::new(alloc, log, Vec::new(alloc), setup) {
         Ok(made) => Ok(made),
         Err(_) => Err(Fail::from(AllocError)),
     }
@@ -103,7 +109,7 @@ pub fn hub_on<D: Disk + Drop, B: Since>(
 fn start_on(alloc: Global, shape: Shape, disk: MemDisk) -> Result<Trial<SlowDisk, Brand>, Fail>
     requires { IsTrialShape shape }
     ensures trial { IfOk result (λ r. IsTrial r.0 shape r.1) }
-    ensures parts { IfOk result (λ r. (r.0.parts ≡ 129) × (r.1.parts ≡ 129)) }
+    ensures parts { IfOk result (λ r. (r.0.parts ≡ hub_parts) × (r.1.parts ≡ hub_parts)) }
 {
     let log = open_on(alloc, SlowDisk::quiet(alloc, disk)?, shape)?;
     hub_on::<SlowDisk, Brand>(alloc, shape, log)

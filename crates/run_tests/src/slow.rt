@@ -4,6 +4,7 @@ ghost use Rattle.std.specs.Prelude.{◌≡◌, ◌≤◌, ◌<◌, ◌+◌, leng
 ghost use Rattle.std.specs.Arc.{arc_value};
 ghost use Rattle.hy_base.specs.Shape.{IsWithin};
 ghost use Rattle.run_tests.specs.Trial.{IsTrial, IsTrialShape};
+ghost use Rattle.hy_hub.specs.Origin.{hub_parts};
 
 use crate::calls::empty;
 use crate::hub::{FIVES, OPENING, append, begins, hub_on, open_on, put, put_once};
@@ -131,7 +132,7 @@ struct Crowd {
     split: u64,
     shape: Shape,
     ghost trial: { IsTrial (arc_value hub) shape pass },
-    ghost parts: { pass.parts + split ≡ 129 },
+    ghost parts: { pass.parts + split ≡ hub_parts },
 }
 
 impl Crowd {

@@ -17,7 +17,7 @@ use Rattle.hy_rules.specs.History.{committed_at, flagged_history, pairs_of, writ
 use Rattle.hy_base.specs.Verdicts.{is_commit}
 use Rattle.hy_rules.specs.Exec.{value_in}
 use Rattle.hy_rules.specs.Validation.{live, rows, verdicts_after}
-use Rattle.hy_load.specs.LoadLaws.{CountsUpTo, EntryCounts}
+use Rattle.hy_gen.specs.LoadLaws.{CountsUpTo, EntryCounts}
 
 -- a value, where there is one, is the spelling of a number up to a bound
 abbrev pub IsCountUpTo : ℕ → Option (List ℕ) → Type 0

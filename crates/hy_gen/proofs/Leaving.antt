@@ -16,8 +16,8 @@ use Rattle.hy_rules.specs.Exec.{Effects, no_effects, own_write, perform, perform
 use Rattle.hy_gen.specs.declared.drawing.Draw.{Draw}
 use Rattle.hy_gen.specs.Draws.{draw_of, reads_only}
 use Rattle.hy_gen.specs.Load.{commands_by, program_numbered, value_numbered}
-use Rattle.hy_load.specs.LoadLaws.{CountsUpTo}
-use Rattle.hy_load.proofs.Counting.{IsCountUpTo}
+use Rattle.hy_gen.specs.LoadLaws.{CountsUpTo}
+use Rattle.hy_gen.proofs.Counting.{IsCountUpTo}
 
 -- a list of writes of which each counts
 abbrev pub WritesCount : ℕ → List Write → Type 0

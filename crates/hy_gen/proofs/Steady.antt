@@ -16,8 +16,8 @@ use Rattle.hy_rules.specs.Moves.{State, On, asked_by, asked_position, board_of, 
 use Rattle.hy_rules.specs.Runs.{setting_of, program_of}
 use Rattle.hy_gen.specs.Load.{client_of, program_count, program_numbered, programs_of, script_of}
 use Rattle.hy_gen.specs.Rounds.{home, log_len, period}
-use Rattle.hy_load.proofs.Spots.{get_ranged}
-use Rattle.hy_load.proofs.Turns.{start}
+use Rattle.hy_gen.proofs.Spots.{get_ranged}
+use Rattle.hy_gen.proofs.Turns.{start}
 
 -- ---- the script
 

@@ -13,12 +13,12 @@ use Rattle.hy_rules.specs.Runs.{may_happen, run, setting_of}
 use Rattle.hy_rules.proofs.Backward.{next_state}
 use Rattle.hy_gen.specs.Load.{script_of}
 use Rattle.hy_gen.specs.Rounds.{is_last, log_len, pads, period, publishes, whole}
-use Rattle.hy_load.specs.LoadLaws.{EntryCounts, LogCounts}
-use Rattle.hy_load.proofs.Bounds.{len_is_whole, len_rises}
-use Rattle.hy_load.proofs.Ends.{entries_both, entries_more}
-use Rattle.hy_load.proofs.Spots.{change_middle, nth_middle, run_both, run_one}
-use Rattle.hy_load.proofs.Steady.{board_before, calm_state, none_kept}
-use Rattle.hy_load.proofs.Turns.{IsPeriod, is_period, start}
+use Rattle.hy_gen.specs.LoadLaws.{EntryCounts, LogCounts}
+use Rattle.hy_gen.proofs.Bounds.{len_is_whole, len_rises}
+use Rattle.hy_gen.proofs.Ends.{entries_both, entries_more}
+use Rattle.hy_gen.proofs.Spots.{change_middle, nth_middle, run_both, run_one}
+use Rattle.hy_gen.proofs.Steady.{board_before, calm_state, none_kept}
+use Rattle.hy_gen.proofs.Turns.{IsPeriod, is_period, start}
 
 -- ---- fillers
 

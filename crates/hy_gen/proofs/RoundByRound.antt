@@ -11,13 +11,14 @@ use Rattle.hy_rules.specs.Runs.{opening_of, run}
 use Rattle.hy_gen.specs.Load.{script_of}
 use Rattle.hy_gen.specs.Rounds.{append_count, begin_events, ends, events_in, home, log_len, pads, period, whole}
 use Rattle.hy_gen.proofs.Lengths.{log_len_next, log_len_first}
-use Rattle.hy_load.specs.LoadLaws.{LogCounts}
-use Rattle.hy_load.proofs.Begins.{all_begin}
-use Rattle.hy_load.proofs.Bounds.{len_at_most, whole_least}
-use Rattle.hy_load.proofs.Closes.{all_publish, padded}
-use Rattle.hy_load.proofs.Ends.{KnowsReaders, all_end, appends_of}
-use Rattle.hy_load.proofs.Spots.{run_both}
-use Rattle.hy_load.proofs.Steady.{AreAll, IsBeforeRound, boards_before, calm_state}
+use Rattle.hy_gen.specs.LoadLaws.{LogCounts}
+use Rattle.hy_gen.proofs.Begins.{all_begin}
+use Rattle.hy_gen.proofs.Bounds.{len_at_most, whole_least}
+use Rattle.hy_gen.proofs.Closes.{all_publish, padded}
+use Rattle.hy_gen.proofs.Ends.{KnowsReaders, all_end, appends_of}
+use Rattle.hy_gen.proofs.Spots.{run_both}
+use Rattle.hy_gen.proofs.Steady.{AreAll, IsBeforeRound, boards_before, calm_state}
+use Rattle.hy_base.specs.Limits.{largest_load}
 
 -- the state before a round
 pub record IsSteadyRound (readers : List Bool) (t : ℕ) (log : List EntryKind) (sessions : List Session) : Type 0 where
@@ -33,7 +34,7 @@ pub record Reaches (seed : ℕ) (readers : List Bool) (s : State) (events : List
   pub steady : IsSteadyRound readers t log sessions
   pub leads : run (script_of seed (length readers)) s events ≡ Some (calm_state log (boards_before readers t) sessions)
 
-pub one_round : (seed : ℕ) (readers : List Bool) (t : ℕ) (log : List EntryKind) (sessions : List Session) → KnowsReaders seed readers → length readers ≤ 80000 → IsSteadyRound readers t log sessions
+pub one_round : (seed : ℕ) (readers : List Bool) (t : ℕ) (log : List EntryKind) (sessions : List Session) → KnowsReaders seed readers → length readers ≤ largest_load → IsSteadyRound readers t log sessions
     → Reaches seed readers (calm_state log (boards_before readers t) sessions) (events_in readers t) (t + 1)
 one_round seed readers t log sessions knows small steady =
     let script = script_of seed (length readers) in
@@ -59,7 +60,7 @@ one_round seed readers t log sessions knows small steady =
           (run_both script _ _ _ (pads (log_len readers t + total)) _ (ap (λ n. run script (calm_state ended.after (boards_before readers t) ended.sessions) (pads n)) (sym full) ∙ whole_log.leads) published));
     }
 
-pub all_rounds : (seed : ℕ) (readers : List Bool) (n t : ℕ) (log : List EntryKind) (sessions : List Session) → KnowsReaders seed readers → length readers ≤ 80000 → IsSteadyRound readers t log sessions
+pub all_rounds : (seed : ℕ) (readers : List Bool) (n t : ℕ) (log : List EntryKind) (sessions : List Session) → KnowsReaders seed readers → length readers ≤ largest_load → IsSteadyRound readers t log sessions
     → Reaches seed readers (calm_state log (boards_before readers t) sessions) (flat_map (events_in readers) (range_with_len t n)) (t + n)
 all_rounds seed readers zero t log sessions knows small steady =
     let same : t ≡ t + 0 = omega arith in

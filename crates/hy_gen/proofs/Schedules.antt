@@ -10,12 +10,12 @@ use Rattle.hy_rules.proofs.Backward.{none_disabled}
 use Rattle.hy_gen.specs.Draws.{reads_only}
 use Rattle.hy_gen.specs.Load.{schedule_of, script_of}
 use Rattle.hy_gen.specs.Rounds.{round_count, schedule}
-use Rattle.hy_load.specs.LoadLaws.{LogCounts, ScheduleIsEnabled, ScheduleLeads}
-use Rattle.hy_load.proofs.Bounds.{len_at_most}
-use Rattle.hy_load.proofs.Ends.{KnowsReaders}
-use Rattle.hy_load.proofs.Rounds.{all_rounds, opens, steady_first}
-use Rattle.hy_load.proofs.Spots.{get_ranged}
-use Rattle.hy_load.proofs.Steady.{boards_before, calm_state}
+use Rattle.hy_gen.specs.LoadLaws.{LogCounts, ScheduleIsEnabled, ScheduleLeads}
+use Rattle.hy_gen.proofs.Bounds.{len_at_most}
+use Rattle.hy_gen.proofs.Ends.{KnowsReaders}
+use Rattle.hy_gen.proofs.RoundByRound.{all_rounds, opens, steady_first}
+use Rattle.hy_gen.proofs.Spots.{get_ranged}
+use Rattle.hy_gen.proofs.Steady.{boards_before, calm_state}
 
 -- the list that the schedule goes by
 abbrev readers_of : ℕ → ℕ → List Bool

@@ -13,6 +13,7 @@ use Rattle.hy_base.specs.declared.workload.Event.TheVariants.{Append, End}
 use Rattle.hy_base.specs.declared.workload.Phase.TheVariants.{Begun}
 use Rattle.hy_base.specs.declared.workload.Session.{Session}
 use Rattle.hy_base.specs.Lists.{change_nth, nth}
+use Rattle.hy_base.specs.Limits.{largest_load}
 use Rattle.hy_rules.specs.Exec.{Effects, exec, intention}
 use Rattle.hy_rules.specs.Moves.{State, appended, at_next_program, client_passes, home_server, is_begun}
 use Rattle.hy_rules.specs.Runs.{added, begun_snap, leaves_write, may_happen, pending, run, setting_of}
@@ -21,13 +22,13 @@ use Rattle.hy_rules.proofs.Backward.{next_state}
 use Rattle.hy_gen.specs.Draws.{reads_only}
 use Rattle.hy_gen.specs.Load.{program_count, program_numbered, script_of, shape_for}
 use Rattle.hy_gen.specs.Rounds.{ending, ends, entry_count, home, is_last, log_len, number_in, period}
-use Rattle.hy_load.specs.LoadLaws.{CountsUpTo, EntryCounts, LogCounts}
-use Rattle.hy_load.proofs.Bounds.{len_rises}
-use Rattle.hy_load.proofs.Counting.{live_counts}
-use Rattle.hy_load.proofs.Programs.{ProgramLeaves, program_leaves}
-use Rattle.hy_load.proofs.Spots.{change_middle, nth_middle, run_both, run_one}
-use Rattle.hy_load.proofs.Steady.{AreAll, IsAmid, IsBeforeRound, IsBusy, IsIdleBehind, board_before, boards_before, calm_state, passes, program_is, turn_in}
-use Rattle.hy_load.proofs.Turns.{IsPeriod, home_within, is_period, start}
+use Rattle.hy_gen.specs.LoadLaws.{CountsUpTo, EntryCounts, LogCounts}
+use Rattle.hy_gen.proofs.Bounds.{len_rises}
+use Rattle.hy_gen.proofs.Counting.{live_counts}
+use Rattle.hy_gen.proofs.Leaving.{ProgramLeaves, program_leaves}
+use Rattle.hy_gen.proofs.Spots.{change_middle, nth_middle, run_both, run_one}
+use Rattle.hy_gen.proofs.Steady.{AreAll, IsAmid, IsBeforeRound, IsBusy, IsIdleBehind, board_before, boards_before, calm_state, passes, program_is, turn_in}
+use Rattle.hy_gen.proofs.Turns.{IsPeriod, home_within, is_period, start}
 
 -- ---- logs that grow
 
@@ -78,7 +79,7 @@ abbrev pub KnowsReaders : ℕ → List Bool → Type 0
 KnowsReaders seed readers = (number : ℕ) → number < length readers → slice_get readers number ≡ Some (reads_only seed number)
 
 module _ (seed : ℕ) (readers : List Bool) (t client : ℕ) (log : List EntryKind) (done : List Session) (x : Session) (todo : List Session) (least : 1 ≤ client) (most : client ≤ 8) (at : client ≡ length done + 1)
-    (knows : KnowsReaders seed readers) (small : length readers ≤ 80000) (room : length log + entry_count (ending readers t client) ≤ log_len readers (t + 1)) (bound : log_len readers (t + 1) ≤ 4 * length readers)
+    (knows : KnowsReaders seed readers) (small : length readers ≤ largest_load) (room : length log + entry_count (ending readers t client) ≤ log_len readers (t + 1)) (bound : log_len readers (t + 1) ≤ 4 * length readers)
     (counts : LogCounts log) (amid : IsAmid readers t client x) where
   abbrev size : ℕ
   size = length readers
@@ -244,7 +245,7 @@ pub record AllEnd (seed : ℕ) (readers : List Bool) (t client : ℕ) (log : Lis
   pub leads : run (script_of seed (length readers)) (calm_state log (boards_before readers t) (done ++ todo)) (flat_map (ends readers t) (range_with_len client (length todo)))
       ≡ Some (calm_state after (boards_before readers t) (done ++ sessions))
 
-pub all_end : (seed : ℕ) (readers : List Bool) (t client : ℕ) (log : List EntryKind) (done todo : List Session) → KnowsReaders seed readers → length readers ≤ 80000 → log_len readers (t + 1) ≤ 4 * length readers
+pub all_end : (seed : ℕ) (readers : List Bool) (t client : ℕ) (log : List EntryKind) (done todo : List Session) → KnowsReaders seed readers → length readers ≤ largest_load → log_len readers (t + 1) ≤ 4 * length readers
     → client ≡ length done + 1 → length done + length todo ≤ 8 → length log + appends_of readers t client (length todo) ≤ log_len readers (t + 1) → LogCounts log → AreAll (IsAmid readers t) client todo
     → AllEnd seed readers t client log done todo
 all_end seed readers t client log done [] knows small bound at all room counts amid = record { after = log; sessions = []; before = tt; count = refl; counts = counts; longer = omega arith; leads = refl }

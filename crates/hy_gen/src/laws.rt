@@ -1,5 +1,5 @@
 //! The laws of a load. Each is the contract of a function that does nothing.
-ghost use Rattle.hy_load.specs.LoadLaws.{ScheduleIsEnabled, ScheduleLeads};
+ghost use Rattle.hy_gen.specs.LoadLaws.{ScheduleIsEnabled, ScheduleLeads};
 
 /// No event of a load's schedule is disabled in its turn.
 pub fn schedule_is_enabled()

@@ -8,7 +8,7 @@ use Rattle.hy_base.proofs.NthLemmas.{nth_within}
 use Rattle.hy_gen.specs.Load.{program_count}
 use Rattle.hy_gen.specs.Rounds.{append_count, ending, entry_count, home, is_last, log_len, number_in, period, whole}
 use Rattle.hy_gen.proofs.Lengths.{entry_few, log_len_next, log_len_first}
-use Rattle.hy_load.proofs.Turns.{IsPeriod, has_no_program, home_within, is_period}
+use Rattle.hy_gen.proofs.Turns.{IsPeriod, has_no_program, home_within, is_period}
 
 -- ---- lengths before rounds
 

@@ -13,9 +13,9 @@ use Rattle.hy_rules.specs.Runs.{may_happen, run, setting_of}
 use Rattle.hy_rules.proofs.Backward.{next_state}
 use Rattle.hy_gen.specs.Load.{program_count, script_of}
 use Rattle.hy_gen.specs.Rounds.{begin_events, home, is_beginning, is_first, number_in, period}
-use Rattle.hy_load.proofs.Spots.{change_middle, nth_middle, run_both, run_one}
-use Rattle.hy_load.proofs.Steady.{AreAll, IsAmid, IsBeforeRound, IsBusy, IsIdleBehind, board_before, board_is, boards_before, calm_state, load_home, passes, home_total, starts_on_board, turn_in}
-use Rattle.hy_load.proofs.Turns.{home_within}
+use Rattle.hy_gen.proofs.Spots.{change_middle, nth_middle, run_both, run_one}
+use Rattle.hy_gen.proofs.Steady.{AreAll, IsAmid, IsBeforeRound, IsBusy, IsIdleBehind, board_before, board_is, boards_before, calm_state, load_home, passes, home_total, starts_on_board, turn_in}
+use Rattle.hy_gen.proofs.Turns.{home_within}
 
 -- ---- one client
 
