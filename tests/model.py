@@ -911,7 +911,7 @@ class Core:
         self.next[client] += 1
 
     def append(self, entry, client):
-        """Appends one entry. Answers whether an armed stop struck, and then has done all that it does."""
+        """Appends one entry. Answers whether an armed stop happened, and then has done all that it does."""
         if self.armed is None:
             self.fold.add(entry)
             return False

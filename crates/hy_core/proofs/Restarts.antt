@@ -1,4 +1,4 @@
--- What is kept after a stop has struck, and all have restarted.
+-- What is kept after a stop has happened, and all have restarted.
 use Rattle.std.proofs.Common.{◌≡◌, ℕ, zero, suc, ◌+◌, ◌<◌, ◌≤◌, Bool, true, false, List, [], ◌∷◌, ◌++◌, length, map, replicate, take, refl, ap, sym, ◌∙◌, subst, arith, add-one, append_assoc}
 use Rattle.std.proofs.lemmas.List.{append-nil, map-append, length-map}
 use Rattle.std.specs.Prelude.{Option, Some, None, is_some, option_map, option_and_then, option_to_list, unwrap_or, filter_map, ◌&&◌, ◌==◌, not, if◌then◌else◌}
@@ -152,7 +152,7 @@ restarted_is script h kept pages rs is boards =
     let count : length (state_in_course h).boards ≡ script.servers = length-map h.rollers rolled_upto ∙ is.servers in
     (λ i. record { log = h.log ++ kept; boards = (boards.at ∙ (ap (λ n. replicate n end) (sym count) ∙ sym (constant end (state_in_course h).boards))) i; earlier = cleared h.earlier i; sessions = abandoned_sessions h.client_states i; armed = None })
 
--- a pad in which a stop strikes
+-- a pad in which a stop happens
 pub pad_restarts : (script : Workload) (h : Holding) (server : ℕ) (stop : ArmedStop) (rs : List Roll) → IsHolding script h → h.armed ≡ Some stop
     → IsLawful script.shape (h.log ++ kept_by stop (Filler server)) → AreRestarted script (h.log ++ kept_by stop (Filler server)) rs
     → StepsTo script h (restarting h (kept_by stop (Filler server)) (pages_with (Some stop) 1 (Filler server) h.pages) rs) (Pad server)
@@ -168,7 +168,7 @@ pad_restarts script h server stop rs is armed lawful boards =
       whole = still_whole (with_body (Some stop) 1 (spelling h.pages.shape.version own)) h.pages.bodies;
     }
 
--- ---- an append in which a stop strikes
+-- ---- an append in which a stop happens
 
 idle_next : (y : Session) → abandoned (at_next_program y) ≡ at_next_program y
 idle_next y = refl
@@ -183,7 +183,7 @@ next_abandoned (y ∷ ys) zero begun = refl
 next_abandoned (y ∷ ys) (suc zero) begun = ap (λ z. z ∷ map abandoned ys) (next_or_lost (is_begun y.phase) y refl (begun y refl))
 next_abandoned (y ∷ ys) (suc (suc n)) begun = ap (λ zs. abandoned y ∷ zs) (next_abandoned ys (suc n) begun)
 
--- An append in which a stop strikes that drops the entry.
+-- An append in which a stop happens that drops the entry.
 pub append_lost : (script : Workload) (h : Holding) (client : ℕ) (x : ClientState) (e : EntryKind) (stop : ArmedStop) (rs : List Roll) → IsHolding script h → h.armed ≡ Some stop → is_kept stop ≡ false
     → nth h.client_states client ≡ Some x → is_begun x.session.phase ≡ true → IsLawful script.shape (h.log ++ kept_by stop e) → AreRestarted script (h.log ++ kept_by stop e) rs
     → StepsTo script h (restarting h (kept_by stop e) (pages_with (Some stop) 1 e h.pages) rs) (Append client)
@@ -250,7 +250,7 @@ lost_changed s kept number (x ∷ xs) (suc (suc n)) y idle are place =
     ∙ (λ i. lost_one s kept number x x.session.phase (grind (arith, place)) refl here i ++ lost_changed s kept (number + 1) xs (suc n) y idle later (omega (arith, place)) i)
     ∙ sym (map-append ended_in_course (abandoned_told number x) (all_abandoned (number + 1) (change_nth (λ _. y) xs (suc n))))
 
--- an append in which a stop strikes that keeps the entry
+-- an append in which a stop happens that keeps the entry
 pub append_kept : (script : Workload) (h : Holding) (client pos snap : ℕ) (x : ClientState) (run : Running) (e : EntryKind) (stop : ArmedStop) (rs : List Roll) → IsScript script → IsHolding script h → h.armed ≡ Some stop → is_kept stop ≡ true → pos ≡ length h.log + 1
     → BegunClientState h client snap x run → own_entry script (state_in_course h) client ≡ e ∷ [] → IsLawful script.shape (h.log ++ kept_by stop e) → AreRestarted script (h.log ++ kept_by stop e) rs
     → StepsTo script h (restarting (leaving (record h { pages = pages_with (Some stop) 1 e h.pages }) client pos snap x run e) [] (pages_with (Some stop) 1 e h.pages) rs) (Append client)

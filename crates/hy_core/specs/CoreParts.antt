@@ -211,7 +211,7 @@ Finishes old new client end =
     (snap : ℕ) (x : ClientState) (run : Running) → BegunClientState old client snap x run
     → new ≡ finishing old client snap x run end
 
--- the pages with a body more, so many times, where a stop may strike in the first append
+-- the pages with a body more, so many times, where a stop may happen in the first append
 abbrev pub pages_with : Option ArmedStop → ℕ → EntryKind → Pages → Pages
 pages_with stop count e pages =
     record pages { bodies = option_map (with_body stop count (spelling pages.shape.version e)) pages.bodies }
@@ -327,9 +327,9 @@ pub record AreRestarted (script : Workload) (log : List EntryKind) (rs : List Ro
 abbrev pub kept_by : ArmedStop → EntryKind → List EntryKind
 kept_by stop e = replicate (surviving (Some stop) 1) e
 
--- a stop has struck in an append: its entry is on the device, or not
-abbrev pub struck : ArmedStop → EntryKind → Holding → Holding
-struck stop e h = record h { pages = pages_with (Some stop) 1 e h.pages }
+-- a stop has happened in an append: its entry is on the device, or not
+abbrev pub stopped_in : ArmedStop → EntryKind → Holding → Holding
+stopped_in stop e h = record h { pages = pages_with (Some stop) 1 e h.pages }
 
 -- the log on the device is broken in it
 abbrev pub broken : Holding → Holding

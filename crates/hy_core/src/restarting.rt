@@ -8,7 +8,7 @@ ghost use Rattle.hy_base.specs.Shape.{IsGoodShape, whole_groups};
 ghost use Rattle.hy_rules.specs.Moves.{is_kept};
 ghost use Rattle.hy_memlog.specs.Pages.{IsStop};
 ghost use Rattle.hy_core.specs.CoreParts.{IsHolding, AreRestarted, HasPlaces, ClientStateFits, HasRestarted};
-ghost use Rattle.hy_core.specs.CoreParts.{abandoned_client_state, abandoned_told, kept_by, struck, broken, log_held};
+ghost use Rattle.hy_core.specs.CoreParts.{abandoned_client_state, abandoned_told, kept_by, stopped_in, broken, log_held};
 ghost use Rattle.hy_base.specs.Limits.{most_clients};
 
 use crate::earlier::clear_all;
@@ -20,7 +20,7 @@ use hy_roller::Roller;
 use std::alloc::{AllocError, Global};
 use std::thread::Threads;
 
-/// Whether a stop keeps the entry in whose append it strikes.
+/// Whether a stop keeps the entry in whose append it happens.
 pub(crate) fn is_kept(stop: ArmedStop) -> bool
     ensures { result ≡ is_kept stop }
 {
@@ -91,9 +91,9 @@ fn restarted<R: Threads + Sync, G: Gate + Sync>(
     rolled.share_times(runtime.alloc, script.servers())
 }
 
-/// A stop strikes in the append of an entry: it is on the device exactly where the stop keeps it. Answers the boards on
+/// A stop happens in the append of an entry: it is on the device exactly where the stop keeps it. Answers the boards on
 /// what is left. Out of memory, all is as before, or the log on the device is broken.
-pub(crate) fn strike<R: Threads + Sync, G: Gate + Sync>(
+pub(crate) fn stop_in<R: Threads + Sync, G: Gate + Sync>(
     runtime: &Runtime<R, G>,
     script: &Script,
     core: &mut Parts,
@@ -105,7 +105,7 @@ pub(crate) fn strike<R: Threads + Sync, G: Gate + Sync>(
     requires stop { IsStop stop }
     requires lawful { IsLawful script.now.shape ((log_held core.old).log ++ kept_by stop entry.now) }
     requires fits { FitsVersion (log_held core.old).pages.shape.version entry.now }
-    ensures ok { OnOk result (log_held core.new ≡ struck stop entry.now (log_held core.old)) }
+    ensures ok { OnOk result (log_held core.new ≡ stopped_in stop entry.now (log_held core.old)) }
     ensures boards { IfOk result (λ rollers.
         AreRestarted script.now ((log_held core.old).log ++ kept_by stop entry.now) rollers.items) }
     ensures places { (core.new.log ≡ core.old.log) × (core.new.told ≡ core.old.told) }

@@ -100,7 +100,8 @@ impl Core {
     /// threads, and enters the gate once for each group.
     ///
     /// `NotEnabled` exactly where the event may not happen; then the core is as before. `Memory`: out of memory. Then it is as
-    /// before too; but where a stop had struck it is broken: its state stays, and every further event is answered by `Memory`.
+    /// before too; but where a stop had happened it is broken: its state stays, and every further event is answered by
+    /// `Memory`.
     pub fn step<R: Threads + Sync, G: Gate + Sync>(
         &mut self,
         runtime: &Runtime<R, G>,

@@ -1,4 +1,4 @@
 pub mod Content
 pub mod Moments
 pub mod Stops
-pub mod Strikes
+pub mod Armed

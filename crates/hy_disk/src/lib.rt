@@ -12,7 +12,7 @@ ghost use Rattle.std.specs.Prelude.{OnErr};
 ghost use Rattle.hy_base.specs.Faults.{HasCause};
 ghost use Rattle.hy_disk.specs.Content.{Content, Image, settled, with_pending, AfterFailedWrite, read_into};
 ghost use Rattle.hy_disk.specs.Moments.{Elapses};
-ghost use Rattle.hy_disk.specs.Strikes.{IsUnarmed};
+ghost use Rattle.hy_disk.specs.Armed.{IsUnarmed};
 
 pub use hy_base::Failed;
 use std::alloc::AllocError;
@@ -45,7 +45,7 @@ pub trait Disk {
 
     /// It is ordered that the k-th write or sync from now on fails, counted from 1, and every call after it. At 0 it has
     /// failed. A write that fails so is done, and isn't synced.
-    ghost strikes: { Self → ℕ → Type 0 };
+    ghost armed_at: { Self → ℕ → Type 0 };
 
     /// How many bytes the device has.
     ///
@@ -59,9 +59,9 @@ pub trait Disk {
 
         // Within its room it doesn't fail and takes none. After an ordered failure it fails.
         ensures room { (k b : ℕ) → has_room self.old k b → IsOk result × has_room self.new k b }
-        ensures strikes { (k : ℕ) → strikes self.old k → strikes self.new k }
-        ensures unarmed { IsUnarmed (strikes self.old) → IsUnarmed (strikes self.new) }
-        ensures struck { strikes self.old 0 → IsErr result };
+        ensures armed_at { (k : ℕ) → armed_at self.old k → armed_at self.new k }
+        ensures unarmed { IsUnarmed (armed_at self.old) → IsUnarmed (armed_at self.new) }
+        ensures due { armed_at self.old 0 → IsErr result };
 
     /// Puts the bytes from a place on in front of a buffer, and answers how many. They are fewer than the buffer holds
     /// exactly where the device ends there.
@@ -78,9 +78,9 @@ pub trait Disk {
 
         // Within its room it doesn't fail and takes none. After an ordered failure it fails.
         ensures room { (k b : ℕ) → has_room self.old k b → IsOk result × has_room self.new k b }
-        ensures strikes { (k : ℕ) → strikes self.old k → strikes self.new k }
-        ensures unarmed { IsUnarmed (strikes self.old) → IsUnarmed (strikes self.new) }
-        ensures struck { strikes self.old 0 → IsErr result };
+        ensures armed_at { (k : ℕ) → armed_at self.old k → armed_at self.new k }
+        ensures unarmed { IsUnarmed (armed_at self.old) → IsUnarmed (armed_at self.new) }
+        ensures due { armed_at self.old 0 → IsErr result };
 
     /// Writes the bytes from a place on, over what stands there and past the end. A crash may leave any bytes in their
     /// range until a sync is done.
@@ -101,11 +101,11 @@ pub trait Disk {
         ensures room { (k b : ℕ) → has_room self.old (k + 1) (b + length bytes.now) → IsOk result × has_room self.new k b }
 
         // It brings an ordered failure nearer, and fails where that is this call or an earlier one.
-        ensures strikes { (k : ℕ) → strikes self.old (k + 1) → strikes self.new k }
-        ensures stays_struck { strikes self.old 0 → strikes self.new 0 }
-        ensures unarmed { IsUnarmed (strikes self.old) → IsUnarmed (strikes self.new) }
-        ensures struck { (k : ℕ) → k ≤ 1 → strikes self.old k → IsErr result }
-        ensures done { IsTrue tells → strikes self.old 1 → (k : ℕ) → has_room self.old k (length bytes.now)
+        ensures armed_at { (k : ℕ) → armed_at self.old (k + 1) → armed_at self.new k }
+        ensures stays_due { armed_at self.old 0 → armed_at self.new 0 }
+        ensures unarmed { IsUnarmed (armed_at self.old) → IsUnarmed (armed_at self.new) }
+        ensures due { (k : ℕ) → k ≤ 1 → armed_at self.old k → IsErr result }
+        ensures done { IsTrue tells → armed_at self.old 1 → (k : ℕ) → has_room self.old k (length bytes.now)
             → content self.new ≡ with_pending (content self.old) place bytes.now };
 
     /// Makes what a read gives stable: after it a crash leaves exactly that.
@@ -123,10 +123,10 @@ pub trait Disk {
         ensures room { (k b : ℕ) → has_room self.old (k + 1) b → IsOk result × has_room self.new k b }
 
         // It brings an ordered failure nearer, and fails where that is this call or an earlier one.
-        ensures strikes { (k : ℕ) → strikes self.old (k + 1) → strikes self.new k }
-        ensures stays_struck { strikes self.old 0 → strikes self.new 0 }
-        ensures unarmed { IsUnarmed (strikes self.old) → IsUnarmed (strikes self.new) }
-        ensures struck { (k : ℕ) → k ≤ 1 → strikes self.old k → IsErr result };
+        ensures armed_at { (k : ℕ) → armed_at self.old (k + 1) → armed_at self.new k }
+        ensures stays_due { armed_at self.old 0 → armed_at self.new 0 }
+        ensures unarmed { IsUnarmed (armed_at self.old) → IsUnarmed (armed_at self.new) }
+        ensures due { (k : ℕ) → k ≤ 1 → armed_at self.old k → IsErr result };
 
     /// The count of faults so far.
     fn faults(&self) -> u64
@@ -154,13 +154,13 @@ pub trait Tuned: Disk {
     ///
     /// Running out of memory leaves the device with the room that it had, or more.
     fn room(&mut self, bytes: usize, calls: usize) -> Result<(), AllocError>
-        ensures room { OnOk result (IsUnarmed (Self.Disk.strikes self.old) → Self.Disk.has_room self.old 0 0
+        ensures room { OnOk result (IsUnarmed (Self.Disk.armed_at self.old) → Self.Disk.has_room self.old 0 0
             → Self.Disk.has_room self.new calls bytes) }
-        ensures before { OnOk result ((k : ℕ) → Self.Disk.strikes self.old (k + 1) → Self.Disk.has_room self.old 0 0
+        ensures before { OnOk result ((k : ℕ) → Self.Disk.armed_at self.old (k + 1) → Self.Disk.has_room self.old 0 0
             → Self.Disk.has_room self.new (min (calls - 1) k) bytes) }
         ensures keeps { (k b : ℕ) → Self.Disk.has_room self.old k b → Self.Disk.has_room self.new k b }
-        ensures strikes { (k : ℕ) → Self.Disk.strikes self.old k → Self.Disk.strikes self.new k }
-        ensures unarmed { IsUnarmed (Self.Disk.strikes self.old) → IsUnarmed (Self.Disk.strikes self.new) }
+        ensures armed_at { (k : ℕ) → Self.Disk.armed_at self.old k → Self.Disk.armed_at self.new k }
+        ensures unarmed { IsUnarmed (Self.Disk.armed_at self.old) → IsUnarmed (Self.Disk.armed_at self.new) }
         ensures same { Self.Disk.content self.new ≡ Self.Disk.content self.old }
         ensures time { Elapses (Self.Disk.moment self.old) (Self.Disk.moment self.new) (Self.Disk.left_since self.old)
             (Self.Disk.left_since self.new) (Self.Disk.content self.new) }
@@ -170,7 +170,7 @@ pub trait Tuned: Disk {
     /// The room ends before that call.
     fn arm(&mut self, k: u64)
         requires { 1 ≤ k }
-        ensures strikes { Self.Disk.strikes self.new k }
+        ensures armed_at { Self.Disk.armed_at self.new k }
         ensures room { (b : ℕ) → Self.Disk.has_room self.old k b → Self.Disk.has_room self.new (k - 1) b }
         ensures same { Self.Disk.content self.new ≡ Self.Disk.content self.old }
         ensures time { Elapses (Self.Disk.moment self.old) (Self.Disk.moment self.new) (Self.Disk.left_since self.old)

@@ -90,7 +90,7 @@ impl<'a, R: Files> Disk for FileDisk<'a, R> {
 
     ghost has_room = { λ _ _ _. ⊥ };
 
-    ghost strikes = { λ _ _. ⊥ };
+    ghost armed_at = { λ _ _. ⊥ };
 
     ghost seen_may_stay = { λ disk told. Prim.search rules };
 

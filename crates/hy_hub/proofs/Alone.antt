@@ -28,7 +28,7 @@ use Rattle.hy_hub.specs.declared.step.PadStep.{PadStep}
 use Rattle.hy_hub.specs.declared.step.PadStep.TheVariants.{Answered as PadAnswered, Leads as PadLeads, Waits as PadWaits}
 use Rattle.hy_hub.specs.declared.occurrence.AppendRefusal.{AppendRefusal}
 use Rattle.hy_hub.specs.declared.occurrence.AppendRefusal.TheVariants.{Memory as OutOfMemory, OutOfTurn as NotBegun, Full, Stopped, Device}
-use Rattle.hy_hub.proofs.Flying.{keeps_made, get_within}
+use Rattle.hy_hub.proofs.WrittenOut.{keeps_made, get_within}
 use Rattle.hy_hub.proofs.Stepping.{AreMarks}
 
 -- an item of two lists, one behind the other
@@ -240,8 +240,8 @@ pub led_alone : (of : Option ℕ) (old new : Known Occurrence) → AreLed of (le
 led_alone of old new led place x behind there = ⊎_elim (λ (l : IsLedBy of new (length old.seen) place x). l) (λ (p : (None ≡ Some place) × (is_lift x ≡ true)). absurd (cc (p.0))) (led place x behind there)
 
 -- a call that lifted the device and put it back
-pub flown_alone : (of : Option ℕ) {lift : ℕ} (all : ℕ) (first mid lifted new : Known Occurrence) → IsPrefix first.seen mid.seen → mid.parts ≡ first.parts → HasLifted lift mid lifted → StaysAlone of all mid lifted → LeadsStill of all None None lifted new → first.parts ≡ all → AreLed of (length first.seen) None mid → AreLed of (length first.seen) None new
-flown_alone of {lift} all first mid lifted new grown parts lead stays still is led =
+pub written_alone : (of : Option ℕ) {lift : ℕ} (all : ℕ) (first mid lifted new : Known Occurrence) → IsPrefix first.seen mid.seen → mid.parts ≡ first.parts → HasLifted lift mid lifted → StaysAlone of all mid lifted → LeadsStill of all None None lifted new → first.parts ≡ all → AreLed of (length first.seen) None mid → AreLed of (length first.seen) None new
+written_alone of {lift} all first mid lifted new grown parts lead stays still is led =
     let place = lead.place in
     let since : length first.seen ≤ lift = omega (arith, ap length grown.1, length-append first.seen grown.0, ap length lead.past.1, length-append mid.seen lead.past.0, place) in
     let before : lift < length lifted.seen = omega (arith, place, ap length lead.is, length-append lead.front (Lifted lead.batch ∷ [])) in

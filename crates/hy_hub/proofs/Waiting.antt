@@ -121,12 +121,12 @@ claim_kept client Waits claim is = claim_own client claim is
 -- ---- when none is in flight
 
 -- none is while the device is home, or the log is full
-pub none_flies : (flight : Option Batch) (entries : List EntryKind) (cap : ℕ) (waiting : List Asked) (flying : ℕ) → IsFlight flight entries cap waiting flying → (is_some flight ≡ false) ⊎ (cap ≤ length entries) → flying ≡ 0
-none_flies None entries cap waiting flying is rests = is
-none_flies (Some (Appends waited count ahead lifted)) entries cap waiting flying is rests = ⊎_elim
+pub none_in_flight : (flight : Option Batch) (entries : List EntryKind) (cap : ℕ) (waiting : List Asked) (in_flight : ℕ) → IsFlight flight entries cap waiting in_flight → (is_some flight ≡ false) ⊎ (cap ≤ length entries) → in_flight ≡ 0
+none_in_flight None entries cap waiting in_flight is rests = is
+none_in_flight (Some (Appends waited count ahead lifted)) entries cap waiting in_flight is rests = ⊎_elim
     (λ (home : true ≡ false). absurd (cc home))
     (λ (full : cap ≤ length entries). let some = is.1 in let room = is.5 in absurd (omega (arith, full, some, room))) rests
-none_flies (Some (Fillers server count lifted)) entries cap waiting flying is rests = is.0
+none_in_flight (Some (Fillers server count lifted)) entries cap waiting in_flight is rests = is.0
 
 -- a log that stopped is home
 pub stopped_home : {D : Type 0} (tells : Bool) (content : D → Content) (leaves : D → (List ℕ → Type 0) → Type 0) (least : ℕ) (faults : D → ℕ) (opened : ℕ) (header : Header) (failed : List EntryKind) (flight : Option Batch) (log : Option (PipeView D)) (entries : List EntryKind)

@@ -9,10 +9,10 @@ ghost use Rattle.hy_hub.specs.Trace.{flight_of, is_out};
 ghost use Rattle.hy_hub.specs.Hub.{IsHubHistory};
 ghost use Rattle.hy_hub.specs.Calls.{OwnTurn, IsFree, IsIdle, done_by, AppendDoes, is_declared_client};
 ghost use Rattle.hy_hub.specs.Appends.{IsRunningFor};
-ghost use Rattle.hy_hub.specs.HoldSteps.{claim_flown, comes_early};
-ghost use Rattle.hy_hub.specs.Flights.{IsOutWith, IsFlownOf, are_appends};
+ghost use Rattle.hy_hub.specs.HoldSteps.{claim_written, comes_early};
+ghost use Rattle.hy_hub.specs.Flights.{IsOutWith, IsWrittenWith, are_appends};
 ghost use Rattle.hy_hub.specs.Holds.{FailsAfter, KeepsMade, IsCarrier, HasLanded, LandsOwn, IsLiftAt, LedOn, LeadsOn};
-ghost use Rattle.hy_hub.specs.Holds.{MayLeadOn, Flies, LeadsStill, lift_of, lift_found};
+ghost use Rattle.hy_hub.specs.Holds.{MayLeadOn, WritesOut, LeadsStill, lift_of, lift_found};
 
 use crate::contents::Contents;
 use crate::flights::{Concerned, write_batch};
@@ -86,7 +86,7 @@ impl<D: Disk, B: Since> Hub<D, B> {
     ) -> Option<(Pos, Option<Flight<D>>)>
         requires pass { IsCarrier self.now pass.old }
         requires client { is_declared_client request.now.client pass.old.seen }
-        requires flown { IsFlownOf D.tells D.content
+        requires written { IsWrittenWith D.tells D.content
             (LeavesSince D.moment D.left_since B.moment B.left) B.least D.faults_of pass.old.seen log (Ok at) }
         requires appends { are_appends (flight_of pass.old.seen) ≡ true }
         requires claim { pass.old.claim ≡ Some request.now.client }
@@ -99,7 +99,7 @@ impl<D: Disk, B: Since> Hub<D, B> {
         let concerned = contents.concerned(log.laid_len());
         let first = self.places.link(&concerned, request.client());
         let woken = Woken { concerned, first };
-        contents.flies_for();
+        contents.batch_waits();
         contents.land_written(log, at);
         let Some((place, at)) = contents.appended(request, since) else {
             let claim = Some(u64::from(request.client()));
@@ -123,7 +123,7 @@ impl<D: Disk, B: Since> Hub<D, B> {
         goes_on: bool,
     ) -> Option<Flight<D>>
         requires pass { IsCarrier self.now pass.old }
-        requires flown { IsFlownOf D.tells D.content
+        requires written { IsWrittenWith D.tells D.content
             (LeavesSince D.moment D.left_since B.moment B.left) B.least D.faults_of pass.old.seen flight.log (Ok at) }
         requires appends { are_appends (flight_of pass.old.seen) ≡ true }
         requires lift { IsLiftAt flight.lift pass.old.seen }
@@ -140,7 +140,7 @@ impl<D: Disk, B: Since> Hub<D, B> {
         let concerned = contents.concerned(log.laid_len());
         let first = self.places.link(&concerned, leader);
         let woken = Woken { concerned, first };
-        contents.flies_for();
+        contents.batch_waits();
         contents.land_written(log, at);
         if !goes_on {
             self.come_home(pass, contents, Some(lift), None, &woken, true);
@@ -160,7 +160,7 @@ impl<D: Disk, B: Since> Hub<D, B> {
         failed: Failed,
     )
         requires pass { IsCarrier self.now pass.old }
-        requires flown { IsFlownOf D.tells D.content
+        requires written { IsWrittenWith D.tells D.content
             (LeavesSince D.moment D.left_since B.moment B.left) B.least D.faults_of pass.old.seen flight.log (Err failed) }
         requires lift { IsLiftAt flight.lift pass.old.seen }
         requires claim { pass.old.claim ≡ None }
@@ -187,7 +187,7 @@ impl<D: Disk, B: Since> Hub<D, B> {
     ) -> AppendRefusal
         requires pass { IsCarrier self.now pass.old }
         requires client { is_declared_client request.now.client pass.old.seen }
-        requires flown { IsFlownOf D.tells D.content
+        requires written { IsWrittenWith D.tells D.content
             (LeavesSince D.moment D.left_since B.moment B.left) B.least D.faults_of pass.old.seen log (Err failed) }
         requires claim { pass.old.claim ≡ Some request.now.client }
         ensures refused { OwnTurn pass.old pass.new
@@ -213,7 +213,7 @@ impl<D: Disk, B: Since> Hub<D, B> {
     }
 
     // Writes a batch of others, outside the turn, and puts the device back, or lifts it again where the call is to go on.
-    fn fly_again<R: Wait>(
+    fn write_on<R: Wait>(
         &self,
         rt: &R,
         pass: &mut Pass<Contents<D, B>>,
@@ -264,12 +264,12 @@ impl<D: Disk, B: Since> Hub<D, B> {
             let Some(flight) = lifted else {
                 return;
             };
-            lifted = self.fly_again(rt, pass, flight, leader, true);
+            lifted = self.write_on(rt, pass, flight, leader, true);
         }
         let Some(flight) = lifted else {
             return;
         };
-        let lifted = self.fly_again(rt, pass, flight, leader, false);
+        let lifted = self.write_on(rt, pass, flight, leader, false);
         let None = lifted else {
             unreachable!();
         };
@@ -278,7 +278,7 @@ impl<D: Disk, B: Since> Hub<D, B> {
     /// Writes the batch of the device that the pass carries, outside the turn, and puts the device back. Where the call's own
     /// entry was in it, the call writes further batches of those that wait: the device doesn't wait for another to wake. The
     /// position of its entry, once it is in the log.
-    pub(crate) fn fly<R: Wait>(
+    pub(crate) fn write_out<R: Wait>(
         &self,
         rt: &R,
         pass: &mut Pass<Contents<D, B>>,
@@ -292,13 +292,13 @@ impl<D: Disk, B: Since> Hub<D, B> {
             (LeavesSince D.moment D.left_since B.moment B.left) B.least D.faults_of pass.old.seen flight.log }
         requires appends { are_appends (flight_of pass.old.seen) ≡ true }
         requires claim { pass.old.claim ≡ Some request.now.client }
-        ensures flies { Flies self.now request.now since result pass.old pass.new }
+        ensures wrote { WritesOut self.now request.now since result pass.old pass.new }
         ensures in_turn { pass.old.parts ≡ self.now.parts
             → IsRunningFor request.now.client request.now.number request.now.entry pass.old.seen
             → IfErr result (λ e. comes_early e ≡ false) }
         ensures alone { LeadsStill (Some request.now.client) self.now.parts None None pass.old pass.new }
         ensures kept { IsFree self.now pass.new × (pass.new.parts ≡ pass.old.parts) }
-        ensures claim { pass.new.claim ≡ claim_flown request.now.client result }
+        ensures claim { pass.new.claim ≡ claim_written request.now.client result }
     {
         self.places.note_lift();
         let Flight { mut log, lift: _ } = flight;

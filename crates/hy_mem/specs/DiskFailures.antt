@@ -32,9 +32,9 @@ is_after_all call None = false
 is_after_all call (Some last) = nat_lt last call
 
 -- whether the armed failure comes at this write or sync from now on, or before it
-abbrev pub strikes_within : ℕ → Option ℕ → Bool
-strikes_within n None = false
-strikes_within n (Some at) = nat_le at n
+abbrev pub armed_within : ℕ → Option ℕ → Bool
+armed_within n None = false
+armed_within n (Some at) = nat_le at n
 
 -- whether the next call fails by its number
 abbrev pub fails_by_number : DevicePlan → Bool
@@ -43,11 +43,11 @@ fails_by_number plan =
 
 -- whether the next call fails, if it changes nothing
 abbrev pub read_fails : DevicePlan → Bool
-read_fails plan = fails_by_number plan || strikes_within 0 plan.armed
+read_fails plan = fails_by_number plan || armed_within 0 plan.armed
 
 -- whether the next call fails, if it is a write or a sync
 abbrev pub change_fails : DevicePlan → Bool
-change_fails plan = fails_by_number plan || strikes_within 1 plan.armed
+change_fails plan = fails_by_number plan || armed_within 1 plan.armed
 
 -- the plan after one more call that changes nothing
 abbrev pub after_read : DevicePlan → Bool → DevicePlan

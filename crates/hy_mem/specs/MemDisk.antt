@@ -27,8 +27,8 @@ abbrev pub left_since_of : MemDisk → ℕ → List ℕ → Type 0
 left_since_of disk t image = Image (content_of disk) image ⊎ LeftBefore disk.store.before t image
 
 -- the k-th write or sync from now on is armed
-abbrev pub Strikes : MemDisk → ℕ → Type 0
-Strikes disk k = disk.calls.armed ≡ Some k
+abbrev pub ArmedAt : MemDisk → ℕ → Type 0
+ArmedAt disk k = disk.calls.armed ≡ Some k
 
 -- So many writes and syncs, of so many bytes in all, don't fail, nor does a call between them.
 pub record HasRoom (disk : MemDisk) (k b : ℕ) : Type 0 where

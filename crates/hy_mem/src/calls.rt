@@ -3,7 +3,7 @@ ghost use Rattle.std.specs.Prelude.{◌≡◌, ◌-◌, ◌||◌, Some, IfOk, is
 ghost use Rattle.std.specs.Option.{option_map};
 ghost use Rattle.hy_base.specs.Faults.{HasCause};
 ghost use Rattle.hy_mem.specs.DiskFailures.{after_change, after_read, change_fails, cleared, counted_call, fails_by_number};
-ghost use Rattle.hy_mem.specs.DiskFailures.{fresh_device_plan, read_fails, strikes_within};
+ghost use Rattle.hy_mem.specs.DiskFailures.{fresh_device_plan, read_fails, armed_within};
 
 use hy_disk::Failed;
 use std::alloc::{AllocError, Global};
@@ -83,7 +83,7 @@ impl DeviceCalls {
         ensures cause { HasCause self.old.faults self.new.faults result }
     {
         let by_number = self.count();
-        let by_order = self.strike();
+        let by_order = self.come_nearer();
         self.answer(is_refused || by_number || by_order)
     }
 
@@ -101,8 +101,8 @@ impl DeviceCalls {
     }
 
     /// Counts a write or a sync, and says whether it fails by order.
-    fn strike(&mut self) -> bool
-        ensures answer { result ≡ strikes_within 1 self.old.armed }
+    fn come_nearer(&mut self) -> bool
+        ensures answer { result ≡ armed_within 1 self.old.armed }
         ensures after { self.new ≡ record self.old { armed = option_map (λ at. at - 1) self.old.armed } }
     {
         match self.armed {

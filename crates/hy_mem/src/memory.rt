@@ -5,7 +5,7 @@ ghost use Rattle.hy_base.specs.Faults.{HasCause};
 ghost use Rattle.hy_disk.specs.Content.{Image, settled, with_pending, read_into};
 ghost use Rattle.hy_disk.specs.Moments.{Elapses};
 ghost use Rattle.hy_disk.specs.Stops.{stopped};
-ghost use Rattle.hy_disk.specs.Strikes.{IsUnarmed};
+ghost use Rattle.hy_disk.specs.Armed.{IsUnarmed};
 ghost use Rattle.hy_mem.specs.DiskFailures.{fresh_device_plan, cleared, read_fails, change_fails, after_read, after_change};
 ghost use Rattle.hy_mem.specs.Reserved.{IsReserved};
 ghost use Rattle.hy_mem.specs.Room.{is_room_for, room_after, widened};
@@ -30,7 +30,7 @@ pub struct MemDisk {
 }
 
 impl MemDisk {
-    ghost use Rattle.hy_mem.specs.MemDisk.{content_of, plan_of, room_of, HasRoom, Strikes};
+    ghost use Rattle.hy_mem.specs.MemDisk.{content_of, plan_of, room_of, HasRoom, ArmedAt};
 
     /// A device with these bytes, all of them synced, and without room. The calls numbered in `fails`, from 1, fail. Out
     /// of memory is the one error.
@@ -39,7 +39,7 @@ impl MemDisk {
         ensures plan { IfOk result (λ disk. plan_of disk ≡ fresh_device_plan fails.now None) }
         ensures room { IfOk result (λ disk. room_of disk ≡ record { calls = 0; bytes = 0 }) }
         ensures has_room { IfOk result (λ disk. fails.now ≡ [] → HasRoom disk 0 0) }
-        ensures unarmed { IfOk result (λ disk. IsUnarmed (Strikes disk)) }
+        ensures unarmed { IfOk result (λ disk. IsUnarmed (ArmedAt disk)) }
     {
         MemDisk::planned(alloc, bytes, fails, None)
     }
@@ -88,7 +88,7 @@ impl MemDisk {
         ensures plan { plan_of result ≡ cleared (plan_of self) }
         ensures room { room_of result ≡ room_of self }
         ensures has_room { (k b : ℕ) → k ≤ (room_of self).calls → b ≤ (room_of self).bytes → HasRoom result k b }
-        ensures unarmed { IsUnarmed (Strikes result) }
+        ensures unarmed { IsUnarmed (ArmedAt result) }
     {
         let MemDisk {
             mut store,
@@ -104,7 +104,7 @@ impl MemDisk {
 impl Disk for MemDisk {
     ghost use Rattle.std.proofs.Common.{inl};
     ghost use Rattle.hy_mem.specs.DiskLaws.{only_now};
-    ghost use Rattle.hy_mem.specs.MemDisk.{content_of, plan_of, room_of, moment_of, left_since_of, HasRoom, Strikes};
+    ghost use Rattle.hy_mem.specs.MemDisk.{content_of, plan_of, room_of, moment_of, left_since_of, HasRoom, ArmedAt};
     ghost use Rattle.hy_mem.specs.RoomLaws.{room_shrinks};
 
     ghost tells = { true };
@@ -119,7 +119,7 @@ impl Disk for MemDisk {
 
     ghost has_room = { HasRoom };
 
-    ghost strikes = { Strikes };
+    ghost armed_at = { ArmedAt };
 
     ghost seen_may_stay = { λ disk told. disk.stays };
 
@@ -215,13 +215,13 @@ impl Disk for MemDisk {
 }
 
 impl Tuned for MemDisk {
-    ghost use Rattle.hy_mem.specs.MemDisk.{content_of, plan_of, room_of, moment_of, left_since_of, HasRoom, Strikes};
+    ghost use Rattle.hy_mem.specs.MemDisk.{content_of, plan_of, room_of, moment_of, left_since_of, HasRoom, ArmedAt};
 
     /// The room grows to exactly so much, where it was less. Running out of memory leaves it as it was.
     fn room(&mut self, bytes: usize, calls: usize) -> Result<(), AllocError>
         ensures room_left { room_of self.new ≡ (if is_ok result then widened calls bytes (room_of self.old)
             else room_of self.old) }
-        ensures before { OnOk result ((k : ℕ) → Strikes self.old (k + 1) → HasRoom self.old 0 0
+        ensures before { OnOk result ((k : ℕ) → ArmedAt self.old (k + 1) → HasRoom self.old 0 0
             → HasRoom self.new (min (calls - 1) k) bytes) }
         ensures plan { plan_of self.new ≡ plan_of self.old }
         ensures same { content_of self.new ≡ content_of self.old }

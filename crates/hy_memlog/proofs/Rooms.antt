@@ -4,8 +4,8 @@ use Rattle.std.proofs.Math.Nat.{mul-le-mul_right, suc-mul}
 use Rattle.hy_formats.specs.LogFormat.{page_count}
 use Rattle.hy_mem.specs.declared.memory.MemDisk.{MemDisk}
 use Rattle.hy_mem.specs.DiskFailures.{IsSoundPlan, IsEarlierCall, spare}
-use Rattle.hy_disk.specs.Strikes.{IsUnarmed}
-use Rattle.hy_mem.specs.MemDisk.{HasRoom, Strikes}
+use Rattle.hy_disk.specs.Armed.{IsUnarmed}
+use Rattle.hy_mem.specs.MemDisk.{HasRoom, ArmedAt}
 use Rattle.hy_mem.specs.RoomLaws.{room_shrinks}
 use Rattle.hy_log.specs.View.{LogView}
 use Rattle.hy_memlog.specs.Pages.{HasRoomFor}
@@ -19,7 +19,7 @@ unarmed_room disk k b sound armed calls bytes = record {
   bytes = bytes;
 }
 
-pub none_armed : (disk : MemDisk) → disk.calls.armed ≡ None → IsUnarmed (Strikes disk)
+pub none_armed : (disk : MemDisk) → disk.calls.armed ≡ None → IsUnarmed (ArmedAt disk)
 none_armed disk none = λ k some. let f : None ≡ Some k = sym none ∙ some in absurd (cc)
 
 next_times : (n m : ℕ) → (n + 1) * m ≡ n * m + m

@@ -5,9 +5,9 @@ use Rattle.hy_base.specs.declared.workload.ArmedStop.{ArmedStop}
 use Rattle.hy_base.specs.Shape.{IsWithin}
 use Rattle.hy_formats.specs.LogFormat.{page_count}
 use Rattle.hy_rules.specs.Moves.{surviving}
-use Rattle.hy_disk.specs.Strikes.{IsUnarmed}
+use Rattle.hy_disk.specs.Armed.{IsUnarmed}
 use Rattle.hy_mem.specs.declared.memory.MemDisk.{MemDisk}
-use Rattle.hy_mem.specs.MemDisk.{HasRoom, Strikes}
+use Rattle.hy_mem.specs.MemDisk.{HasRoom, ArmedAt}
 use Rattle.hy_log.specs.View.{LogView}
 
 -- its shape and its bodies. There are none once memory ran out in a new opening: the log is broken
@@ -20,7 +20,7 @@ pub record IsSteady (log : LogView MemDisk) : Type 0 where
   pub whole : log.from ≡ 0
   pub running : log.stopped ≡ None
   pub nothing_waits : log.batch ≡ []
-  pub unarmed : IsUnarmed (Strikes log.disk)
+  pub unarmed : IsUnarmed (ArmedAt log.disk)
   pub room : HasRoom log.disk 0 0
 
 -- and a body of this size can be appended so many times without memory
@@ -34,7 +34,7 @@ pub record IsStop (stop : ArmedStop) : Type 0 where
   pub call : IsWithin 1 4 stop.call
   pub pattern : stop.pattern ≤ 2
 
--- the bodies with one more, so many times, where a stop may strike in the first of these appends
+-- the bodies with one more, so many times, where a stop may happen in the first of these appends
 abbrev pub with_body : Option ArmedStop → ℕ → List ℕ → List (List ℕ) → List (List ℕ)
 with_body stop count body bodies = bodies ++ replicate (surviving stop count) body
 

@@ -5,7 +5,7 @@ ghost use Rattle.hy_base.specs.Shape.{IsGoodShape};
 ghost use Rattle.hy_formats.specs.LogFormat.{IsBody};
 ghost use Rattle.hy_memlog.specs.Pages.{Pages, IsStop, with_body, broken_log};
 
-use crate::pages::{create, make_ready, put_all, strike};
+use crate::pages::{create, make_ready, put_all, stop_in};
 use hy_base::{ArmedStop, Shape};
 use hy_log::PageLog;
 use hy_mem::MemDisk;
@@ -13,7 +13,7 @@ use std::alloc::{AllocError, Global};
 use std::marker::Model;
 
 /// A log over a device in memory, seen as its shape and a list of bodies. It is broken once memory ran out after a stop had
-/// struck: then it has no bodies, and takes none.
+/// happened: then it has no bodies, and takes none.
 #[derive(Drop)]
 pub struct MemLog {
     shape: Shape,
@@ -83,7 +83,7 @@ impl MemLog {
     /// one exactly where the stop keeps it.
     ///
     /// `AllocError`: out of memory, or the log is broken. The log is as before, or is broken from now on where the stop had
-    /// struck.
+    /// happened.
     pub fn stop(&mut self, alloc: Global, body: &[u8], stop: ArmedStop) -> Result<(), AllocError>
         requires body { IsBody self.old.shape.version body.now }
         requires room_left { IfSome self.old.bodies (λ bodies. length bodies < self.old.shape.cap) }
@@ -101,7 +101,7 @@ impl MemLog {
             self.log = Some(log);
             return Err(AllocError);
         }
-        self.log = Some(strike(alloc, log, body, stop)?);
+        self.log = Some(stop_in(alloc, log, body, stop)?);
         Ok(())
     }
 }

@@ -4,8 +4,8 @@ ghost use Rattle.std.specs.Prelude.{OnOk};
 ghost use Rattle.hy_base.specs.Shape.{IsGoodShape};
 ghost use Rattle.hy_formats.specs.LogFormat.{IsBody, uncut};
 ghost use Rattle.hy_formats.specs.LogDevice.{Holds};
-ghost use Rattle.hy_disk.specs.Strikes.{IsUnarmed};
-ghost use Rattle.hy_mem.specs.MemDisk.{content_of, HasRoom, Strikes};
+ghost use Rattle.hy_disk.specs.Armed.{IsUnarmed};
+ghost use Rattle.hy_mem.specs.MemDisk.{content_of, HasRoom, ArmedAt};
 ghost use Rattle.hy_formats.specs.declared.refusal.OpenError.TheVariants as opening;
 ghost use Rattle.hy_memlog.specs.Pages.{IsSteady, HasRoomFor, IsStop, with_body};
 
@@ -89,7 +89,7 @@ pub fn create(alloc: Global, shape: Shape) -> Result<PageLog<MemDisk>, AllocErro
 fn reopen(alloc: Global, disk: MemDisk, shape: Shape) -> Result<PageLog<MemDisk>, AllocError>
     requires good { IsGoodShape shape }
     requires room { HasRoom disk 7 258 }
-    requires unarmed { IsUnarmed (Strikes disk) }
+    requires unarmed { IsUnarmed (ArmedAt disk) }
     requires holds { (bodies : List (List ℕ)) × Holds (uncut shape) bodies (content_of disk).seen }
     ensures steady { IfOk result IsSteady }
     ensures log { (bodies : List (List ℕ)) → Holds (uncut shape) bodies (content_of disk).seen
@@ -100,7 +100,7 @@ fn reopen(alloc: Global, disk: MemDisk, shape: Shape) -> Result<PageLog<MemDisk>
 
 /// Stops in the midst of an append, as ordered: a device call fails, a crash leaves its pattern of the bytes, and what is
 /// left is opened again.
-pub fn strike(
+pub fn stop_in(
     alloc: Global,
     mut log: PageLog<MemDisk>,
     body: &[u8],

@@ -55,7 +55,7 @@ impl<D: Disk> Disk for ReadAhead<D> {
 
     ghost has_room = { λ disk. D.has_room disk };
 
-    ghost strikes = { λ _ _. ⊥ };
+    ghost armed_at = { λ _ _. ⊥ };
 
     ghost seen_may_stay = { λ disk told. D.seen_may_stay disk told };
 

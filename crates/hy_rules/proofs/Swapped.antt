@@ -79,7 +79,7 @@ module _ (w : Setting) (before : List EntryKind) where
     blind_added (Publish server upto) added may = may
     blind_added (Stop call pattern) added may = may
 
-  -- a stop that strikes restarts the servers on the log's length
+  -- a stop that happens restarts the servers on the log's length
   stopped_by : (armed : Option ArmedStop) (log : List EntryKind) (boards : List ℕ) (earlier : List (List ℕ)) (sessions : List Session) → length before ≤ length log
       → swapped before (stopped_if_armed w (record { log = log; boards = boards; earlier = earlier; sessions = sessions; armed = armed })) ≡ stopped_if_armed w (record { log = starting_with before log; boards = boards; earlier = earlier; sessions = sessions; armed = armed })
   stopped_by None log boards earlier sessions within = refl

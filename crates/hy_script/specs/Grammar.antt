@@ -17,7 +17,8 @@ use Rattle.hy_base.specs.declared.record.Isolation.TheVariants.{Serializable, Sn
 use Rattle.hy_base.specs.Entry.{is_told}
 use Rattle.hy_base.specs.Value.{is_value}
 use Rattle.hy_base.specs.Spelling.{Text}
-use Rattle.hy_base.specs.Limits.{most_boards, most_clients_of_server, most_commands, most_found, most_programs, most_servers, most_tables}
+use Rattle.hy_base.specs.Limits.{most_boards, most_clients_of_server, most_commands, most_found, most_programs, most_servers}
+use Rattle.hy_base.specs.Limits.{most_tables}
 use Rattle.hy_script.specs.Forms.{Meaning, LineForm, Alone, OneNumber, TwoNumbers, ThreeNumbers, NumberAndText}
 use Rattle.hy_script.specs.Forms.{ThreeNumbersAndText, FixedWord, WordAndNumber, OtherFourth, FixedFourth, read_line}
 use Rattle.hy_script.specs.declared.why.Why.{Why}
@@ -129,7 +130,9 @@ tables_form script =
 abbrev pub client_form : Workload → LineForm Place
 client_form script =
     OneNumber "client" (λ server.
-    makes_if ((is_within 1 script.servers server, Range) ∷ (nat_lt (client_count script.clients server) most_clients_of_server, Count) ∷ [])
+    makes_if
+    ((is_within 1 script.servers server, Range)
+    ∷ (nat_lt (client_count script.clients server) most_clients_of_server, Count) ∷ [])
     (Listing (with_client server script)))
 
 -- a further program of the last client

@@ -83,7 +83,8 @@ IsMode shape mode = IsAsOf shape mode.as_of × (is_some mode.as_of ≡ true → 
 -- what a line between programs tells, in a script of a shape
 abbrev pub IsClientListed : Shape → ℕ → List ScriptClient → ListingLine → Type 0
 IsClientListed shape servers clients (Tables tables) = IsWithin 1 most_tables tables × (clients ≡ [])
-IsClientListed shape servers clients (Client server) = IsWithin 1 servers server × (client_count clients server < most_clients_of_server)
+IsClientListed shape servers clients (Client server) =
+    IsWithin 1 servers server × (client_count clients server < most_clients_of_server)
 IsClientListed shape servers clients (Begin mode) =
     (0 < length clients)
     × (last_program_count clients < most_programs)

@@ -444,7 +444,7 @@ fn failing(alloc: Global, k: u64) -> Result<MemDisk, Fail>
 }
 
 // Runs one put over a device that fails in its k-th write or sync, which is one of its own.
-fn struck<R: Threads + Wait + Sync>(rt: &R, alloc: Global, k: u64) -> Result<MemDisk, Fail>
+fn stopped_log<R: Threads + Wait + Sync>(rt: &R, alloc: Global, k: u64) -> Result<MemDisk, Fail>
     requires { 1 ≤ k }
 {
     told(
@@ -463,7 +463,7 @@ fn struck<R: Threads + Wait + Sync>(rt: &R, alloc: Global, k: u64) -> Result<Mem
 fn each_write_and_sync_fails(rt: HostRuntime) -> Result<(), Fail> {
     let alloc = rt.alloc();
     for k in 1..12 {
-        let log = struck(&rt, alloc, k)?;
+        let log = stopped_log(&rt, alloc, k)?;
         assert!(rt; k > 1 || log.bytes().is_empty());
         drop(log);
     }
@@ -482,7 +482,7 @@ fn is_left<R: Threads + Wait + Sync>(
 ) -> Result<(), Fail>
     requires { pattern ≤ 2 }
 {
-    let log = struck(rt, alloc, 10)?.stop(pattern);
+    let log = stopped_log(rt, alloc, 10)?.stop(pattern);
     let log = told(rt, alloc, "the dump", &["recover"], b"", log, dump)?;
     let log = told(rt, alloc, "the next run", RUN, NO_CLIENT, log, again)?;
     drop(log);

@@ -10,7 +10,7 @@ const APPEND: &str =
 
 const PAD: &str = "shape 4 1 8\nservers 1\nclient 1\nbegin\nput 1 a\nend\nschedule\nb 1\na 1\n";
 
-// A script with a stop that strikes in an event: the length of the log then, and where the run ends.
+// A script with a stop that armed_at in an event: the length of the log then, and where the run ends.
 fn stopped<R: Threads + Sync>(
     rt: &R,
     alloc: Global,

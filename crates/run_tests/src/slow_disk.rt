@@ -52,7 +52,7 @@ impl Disk for SlowDisk {
 
     ghost has_room = { λ _ _ _. ⊥ };
 
-    ghost strikes = { λ _ _. ⊥ };
+    ghost armed_at = { λ _ _. ⊥ };
 
     ghost seen_may_stay = { λ disk told. Prim.search rules };
 

@@ -1,4 +1,4 @@
-use Rattle.hy_hub.proofs.Flying.{carrier_gives, carries_out}
+use Rattle.hy_hub.proofs.WrittenOut.{carrier_gives, carries_out}
 use Rattle.std.proofs.Common.{◌∙◌}
 use Rattle.hy_hub.specs.Trace.{is_out}
 use Rattle.hy_hub.proofs.hub.Hub.come_home.Goals as goal

@@ -4,7 +4,7 @@ use mathlib.Core.List.{IsPrefix}
 use Rattle.hy_hist.proofs.Lists.{prefix_trans}
 use Rattle.hy_hub.specs.declared.occurrence.Occurrence.{Occurrence}
 use Rattle.hy_hub.specs.Trace.{is_out}
-use Rattle.hy_hub.proofs.Flying.{flown_later, lands_home, lifts_grow, leaves_is, home_lands, lift_some, lift_stays, lift_within}
+use Rattle.hy_hub.proofs.WrittenOut.{written_later, lands_home, lifts_grow, leaves_is, home_lands, lift_some, lift_stays, lift_within}
 use Rattle.hy_hub.proofs.Holding.{same_done}
 use Rattle.hy_hub.proofs.Marks.{done_lift}
 use Rattle.hy_disk.specs.Moments.{LeavesSince}
@@ -19,10 +19,10 @@ use Rattle.hy_hub.proofs.hub.Hub.land_others.Goals as goal
 none_waits : (waiting known : List ℕ) (claimed of : Option ℕ) → waiting ≡ known → AreOwn claimed known → claimed ≡ None → (n : ℕ) → IsAmong n waiting → of ≡ Some n
 none_waits waiting known claimed of shows own none n among = absurd (cc (sym none ∙ own.each n (subst (IsAmong n) shows among)))
 
-pub land_written-requires-clause-flown : goal.land_written-requires-clause-flown
-land_written-requires-clause-flown g c =
+pub land_written-requires-clause-written : goal.land_written-requires-clause-written
+land_written-requires-clause-written g c =
     let h = c.hold-contents.ensures in
-    rw h.list (flown_later g.D.Disk.tells g.D.Disk.content (LeavesSince g.D.Disk.moment g.D.Disk.left_since g.B.Since.moment g.B.Since.left) g.B.Since.least g.D.Disk.faults_of c.args.pass.now.seen c.hold-contents.new.pass.seen c.args.flight.log _ (lift_some c.args.flight.lift c.args.pass.now.seen c.requires.lift) h.grown (h.part c.requires.pass.2).1 c.requires.flown)
+    rw h.list (written_later g.D.Disk.tells g.D.Disk.content (LeavesSince g.D.Disk.moment g.D.Disk.left_since g.B.Since.moment g.B.Since.left) g.B.Since.least g.D.Disk.faults_of c.args.pass.now.seen c.hold-contents.new.pass.seen c.args.flight.log _ (lift_some c.args.flight.lift c.args.pass.now.seen c.requires.lift) h.grown (h.part c.requires.pass.2).1 c.requires.written)
 
 pub lift-lifted-requires : goal.lift-lifted-requires
 lift-lifted-requires g c =
@@ -80,8 +80,8 @@ returns-then-not-goes_on g c =
           let alone : c.args.pass.now.parts ≡ c.args.self.now.parts → c.hold-contents.new.pass.seen ≡ c.args.pass.now.seen = rw (← c.self.view_is) h.whole in
           let whole = alone is in
           let nobody : c.args.pass.now.parts ≡ c.args.self.now.parts → AreOwn c.args.pass.now.claim c.hold-contents.new.pass.waiting = rw (← c.self.view_is) h.own in
-          let flies = rw h.list at c.flies_for.ensures in
-          home_alone of from (Some c.args.flight.lift) (Some c.args.flight.lift) c.args.pass.now c.hold-contents.new.pass c.come_home.new.pass own.0 c.come_home.new.pass.seen whole h.made p.made (prefix_self c.come_home.new.pass.seen) (p.seen ∙ own.1) (λ k e. e) (landed_of_lift of c.hold-contents.result.waiting c.args.at c.hold-contents.new.pass.seen own.0 (none_waits _ _ _ _ h.waiting (nobody is) c.requires.claim) flies own.2) lifted led;
+          let wrote = rw h.list at c.batch_waits.ensures in
+          home_alone of from (Some c.args.flight.lift) (Some c.args.flight.lift) c.args.pass.now c.hold-contents.new.pass c.come_home.new.pass own.0 c.come_home.new.pass.seen whole h.made p.made (prefix_self c.come_home.new.pass.seen) (p.seen ∙ own.1) (λ k e. e) (landed_of_lift of c.hold-contents.result.waiting c.args.at c.hold-contents.new.pass.seen own.0 (none_waits _ _ _ _ h.waiting (nobody is) c.requires.claim) wrote own.2) lifted led;
     }
 
 pub returns-clause-lands : goal.returns-clause-lands
@@ -124,11 +124,11 @@ returns-clause-alone g c = λ of is from lifted led.
     let alone : c.args.pass.now.parts ≡ c.args.self.now.parts → c.hold-contents.new.pass.seen ≡ c.args.pass.now.seen = rw (← c.self.view_is) h.whole in
     let whole = alone is in
     let nobody : c.args.pass.now.parts ≡ c.args.self.now.parts → AreOwn c.args.pass.now.claim c.hold-contents.new.pass.waiting = rw (← c.self.view_is) h.own in
-    let flies = rw h.list at c.flies_for.ensures in
+    let wrote = rw h.list at c.batch_waits.ensures in
     let landed = ap is_out lands.1 ∙ lands_home (Ok c.args.at) c.hold-contents.result.list lands.0 lands.2 in
     let lifts = lifts_grow g.D.Disk.tells (LeavesSince g.D.Disk.moment g.D.Disk.left_since g.B.Since.moment g.B.Since.left) g.B.Since.least g.D.Disk.faults_of home c.lift-lifted.new.self.list c.lift-lifted.result c.lift-lifted.ensures.lifts in
     let longer = subst (λ (l : List Occurrence). IsPrefix home l) (sym p.seen) lifts in
-    let r = home_alone of from (Some c.args.flight.lift) (Some c.args.flight.lift) c.args.pass.now c.hold-contents.new.pass c.come_home-2.new.pass own.0 home whole h.made p.made longer own.1 (λ k e. e) (landed_of_lift of c.hold-contents.result.waiting c.args.at c.hold-contents.new.pass.seen own.0 (none_waits _ _ _ _ h.waiting (nobody is) c.requires.claim) flies own.2) lifted led in
+    let r = home_alone of from (Some c.args.flight.lift) (Some c.args.flight.lift) c.args.pass.now c.hold-contents.new.pass c.come_home-2.new.pass own.0 home whole h.made p.made longer own.1 (λ k e. e) (landed_of_lift of c.hold-contents.result.waiting c.args.at c.hold-contents.new.pass.seen own.0 (none_waits _ _ _ _ h.waiting (nobody is) c.requires.claim) wrote own.2) lifted led in
     (r.0, leaves_alone of g.D.Disk.tells (LeavesSince g.D.Disk.moment g.D.Disk.left_since g.B.Since.moment g.B.Since.left) g.B.Since.least g.D.Disk.faults_of c.args.self.now c.lift-lifted.result home c.come_home-2.new.pass from (leaves_is g.D.Disk.tells (LeavesSince g.D.Disk.moment g.D.Disk.left_since g.B.Since.moment g.B.Since.left) g.B.Since.least g.D.Disk.faults_of c.args.self.now c.lift-lifted.result c.come_home-2.new.pass home c.lift-lifted.new.self.list (p.kept.0 ∙ (h.kept.0 ∙ c.requires.pass.0)) p.idle landed p.seen p.carries c.lift-lifted.ensures.lifts) r.1)
 
 pub come_home-requires-clause-waits : goal.come_home-requires-clause-waits

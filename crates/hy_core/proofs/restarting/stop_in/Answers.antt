@@ -5,7 +5,7 @@ use Rattle.hy_formats.specs.EntryFormat.{spelling}
 use Rattle.hy_memlog.specs.Pages.{with_body}
 use Rattle.hy_core.specs.CoreParts.{Holding, log_held}
 use Rattle.hy_core.proofs.Stopping.{kept_or_broken}
-use Rattle.hy_core.proofs.restarting.strike.Goals as goal
+use Rattle.hy_core.proofs.restarting.stop_in.Goals as goal
 
 pub returns-in_err-stop-clause-err : goal.returns-in_err-stop-clause-err
 returns-in_err-stop-clause-err g c = any_err _ c.from_residual-in_err-stop.result (kept_or_broken (log_held c.args.core.now) c.stop.new.self c.in_err-stop.ensures.err)

@@ -6,7 +6,7 @@ use Rattle.hy_hub.specs.Entries.{Asked}
 use Rattle.hy_hub.specs.Shown.{clients_of, IsWaitedFor}
 use Rattle.hy_hub.specs.Trace.{asked_event, events_told, flight_of}
 use Rattle.hy_hub.proofs.Lowering.{appends_out}
-use Rattle.hy_hub.proofs.contents.Contents.flies_for.Goals as goal
+use Rattle.hy_hub.proofs.contents.Contents.batch_waits.Goals as goal
 
 -- more may wait
 waited_more : (client : ℕ) (waiting : List ℕ) (xs : List Occurrence) → AllByRecursion (IsWaitedFor waiting) xs → AllByRecursion (IsWaitedFor (client ∷ waiting)) xs

@@ -16,7 +16,7 @@ use Rattle.hy_log.specs.View.{LogView, header_of}
 use Rattle.hy_formats.specs.LogFormat.{page_count, places_of, uncut}
 use Rattle.hy_formats.specs.LogDevice.{Holds}
 use Rattle.hy_mem.specs.declared.memory.MemDisk.{MemDisk}
-use Rattle.hy_mem.specs.MemDisk.{HasRoom, Strikes}
+use Rattle.hy_mem.specs.MemDisk.{HasRoom, ArmedAt}
 use Rattle.hy_mem.specs.RoomLaws.{room_shrinks}
 use Rattle.hy_memlog.specs.Pages.{IsStop, HasRoomFor, with_body}
 
@@ -24,7 +24,7 @@ abbrev pub Appended : Type 0
 Appended = Result ℕ AppendError
 
 -- The append has failed, and the stop leaves the bodies before, or these and the new one, as it keeps it.
-pub record IsStruck (header : Header) (bodies : List (List ℕ)) (body : List ℕ) (stop : ArmedStop) (result : Appended) (content : Content) : Type 0 where
+pub record IsStoppedIn (header : Header) (bodies : List (List ℕ)) (body : List ℕ) (stop : ArmedStop) (result : Appended) (content : Content) : Type 0 where
   pub failed : result ≡ Err appending.Device
   pub left : Holds header (with_body (Some stop) 1 body bodies) (stopped stop.pattern content)
 
@@ -46,9 +46,9 @@ dropped stop body bodies is = sym (by_kept stop false body bodies is ∙ append-
 kept : (stop : ArmedStop) (body : List ℕ) (bodies : List (List ℕ)) → is_kept stop ≡ true → bodies ++ body ∷ [] ≡ with_body (Some stop) 1 body bodies
 kept stop body bodies is = sym (by_kept stop true body bodies is)
 
-pub struck : (header : Header) (bodies : List (List ℕ)) (body : List ℕ) (stop : ArmedStop) (result : Appended) (content : Content) → IsStop stop
-    → (stop.call ≤ 2 → Behind header bodies result content) → (3 ≤ stop.call → AtGate header bodies body result content) → IsStruck header bodies body stop result content
-struck header bodies body stop result content is behind gate = elim (cases_lt stop.call 3) [
+pub stopped_in : (header : Header) (bodies : List (List ℕ)) (body : List ℕ) (stop : ArmedStop) (result : Appended) (content : Content) → IsStop stop
+    → (stop.call ≤ 2 → Behind header bodies result content) → (3 ≤ stop.call → AtGate header bodies body result content) → IsStoppedIn header bodies body stop result content
+stopped_in header bodies body stop result content is behind gate = elim (cases_lt stop.call 3) [
   | inl early ↦
       let b : Behind header bodies result content = behind (omega (arith, early)) in
       let no : is_kept stop ≡ false = early_drops stop early in
@@ -70,7 +70,7 @@ struck header bodies body stop result content is behind gate = elim (cases_lt st
         let no : (s.pattern == 1) ≡ false = grind (arith, other) in
         ap (λ (b : Bool). nat_le 3 s.call && b) no ∙ and-false (nat_le 3 s.call)
 
-    at_gate : AtGate header bodies body result content → 3 ≤ stop.call → (stop.pattern ≡ 1) ⊎ (stop.pattern ≢ 1) → IsStruck header bodies body stop result content
+    at_gate : AtGate header bodies body result content → 3 ≤ stop.call → (stop.pattern ≡ 1) ⊎ (stop.pattern ≢ 1) → IsStoppedIn header bodies body stop result content
     at_gate g late (inl one) = record {
       failed = g.0;
       left = subst (λ (bs : List (List ℕ)). Holds header bs (stopped stop.pattern content)) (kept stop body bodies (late_keeps stop late one))
@@ -90,15 +90,15 @@ IsSame armed log = armed ≡ record log { disk = armed.disk }
 -- the append's clauses on the order
 abbrev pub WhereOrdered : LogView MemDisk → ℕ → ℕ → ℕ → Type 0 → Type 0
 WhereOrdered armed size low high P =
-    length armed.bodies ≢ places_of (header_of armed) → armed.stopped ≡ None → (k : ℕ) → low ≤ k → k ≤ high → Strikes armed.disk k → HasRoom armed.disk (k - 1) (1 + 256 * page_count size) → P
+    length armed.bodies ≢ places_of (header_of armed) → armed.stopped ≡ None → (k : ℕ) → low ≤ k → k ≤ high → ArmedAt armed.disk k → HasRoom armed.disk (k - 1) (1 + 256 * page_count size) → P
 
-pub strike_leaves : (log armed : LogView MemDisk) (body : List ℕ) (stop : ArmedStop) (call : ℕ) (result : Appended) (content : Content)
-    → HasRoomFor (length body) 1 log → length log.bodies < log.shape.cap → IsStop stop → call ≡ stop.call → IsSame armed log → Strikes armed.disk call
+pub stop_leaves : (log armed : LogView MemDisk) (body : List ℕ) (stop : ArmedStop) (call : ℕ) (result : Appended) (content : Content)
+    → HasRoomFor (length body) 1 log → length log.bodies < log.shape.cap → IsStop stop → call ≡ stop.call → IsSame armed log → ArmedAt armed.disk call
     → ((b : ℕ) → HasRoom log.disk call b → HasRoom armed.disk (call - 1) b)
     → WhereOrdered armed (length body) 1 2 (Behind (header_of armed) armed.bodies result content)
     → WhereOrdered armed (length body) 3 4 (AtGate (header_of armed) armed.bodies body result content)
-    → IsStruck (uncut log.shape) log.bodies body stop result content
-strike_leaves log armed body stop call result content ready some is_stop is same strikes room behind gate =
+    → IsStoppedIn (uncut log.shape) log.bodies body stop result content
+stop_leaves log armed body stop call result content ready some is_stop is same armed_at room behind gate =
     let pages : ℕ = 1 + 256 * page_count (length body) in
     let shape : armed.shape ≡ log.shape = ap (λ (v : LogView MemDisk). v.shape) same in
     let from : armed.from ≡ 0 = ap (λ (v : LogView MemDisk). v.from) same ∙ ready.steady.whole in
@@ -109,10 +109,10 @@ strike_leaves log armed body stop call result content ready some is_stop is same
     let least : 1 ≤ call = omega (arith, is, is_stop.call.at_least) in
     let most : call ≤ 4 = omega (arith, is, is_stop.call.at_most) in
     let left : HasRoom armed.disk (call - 1) pages = room pages (room_shrinks log.disk call (4 * 1) pages (1 * (1 + 256 * page_count (length body))) ready.pages (omega (arith, most)) (omega arith)) in
-    subst (λ (k : Header × List (List ℕ)). IsStruck k.0 k.1 body stop result content) (λ i. (header i, bodies i))
-    (struck (header_of armed) armed.bodies body stop result content is_stop
-    (λ early. behind more running call least (omega (arith, is, early)) strikes left)
-    (λ late. gate more running call (omega (arith, is, late)) most strikes left))
+    subst (λ (k : Header × List (List ℕ)). IsStoppedIn k.0 k.1 body stop result content) (λ i. (header i, bodies i))
+    (stopped_in (header_of armed) armed.bodies body stop result content is_stop
+    (λ early. behind more running call least (omega (arith, is, early)) armed_at left)
+    (λ late. gate more running call (omega (arith, is, late)) most armed_at left))
 
 pub not_ok : {A : Type 0} (r : Appended) → r ≡ Err appending.Device → is_ok r ≡ true → A
 not_ok (Ok at) is ok = absurd (cc)
