@@ -150,7 +150,7 @@ impl Core {
         ensures memory { IsErrOf result RunError.Memory → FollowsSome self.old events.now self.new }
         ensures tables { HasSoundTables self.new }
     {
-        let _script = self.script();
+        let _ = self.script();
         for at in 0..events.len() {
             match self.step(runtime, events[at]) {
                 Ok(()) => {}

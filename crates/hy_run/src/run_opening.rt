@@ -47,7 +47,7 @@ fn fault_of<R: Threads + Sync, G: Gate + Sync>(
     if tables == 0 {
         return Ok(None);
     }
-    let _shape = script.shape();
+    let _ = script.shape();
     let roller = &restarted.roller;
     let waits = waiting(&restarted.entries, from, roller.at());
     opening_fault(runtime, roller, waits, tables)
@@ -80,9 +80,9 @@ pub fn open_run<R: Threads + Sync, D: Disk, G: Gate + Sync>(
 {
     opening_looks_tell();
     opening_fault_tells();
-    let _shape = script.shape();
+    let _ = script.shape();
     let restarted = restart(runtime, log, points, options.from_point)?;
-    let _base = restarted.roller.base_tree();
+    let _ = restarted.roller.base_tree();
     match fault_of(runtime, script, log.from(), &restarted)? {
         None => Ok(restarted),
         Some(key) => Err(Status::Table { key }),
