@@ -20,7 +20,7 @@ use Rattle.hy_hub.specs.contracts.occurrence.Away.{the_row as away_row}
 use Rattle.hy_hub.specs.contracts.occurrence.Occurrence.{the_row as occurrence_row}
 use Rattle.hy_hub.proofs.Sending.{contents_send}
 use Rattle.hy_hub.proofs.places.Places.TheSendSync as places
-use Rattle.hy_hub.proofs.rolling.Rolls.TheSendSync as rolls
+use Rattle.hy_hub.proofs.roll_turns.RollTurns.TheSendSync as rolls
 
 -- a closure that captures three references
 module _ {ν : Sym} {a b c : NamedLft} {A B C : RattleType} where

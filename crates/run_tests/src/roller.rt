@@ -326,100 +326,79 @@ impl Gate for Passing {
     fn client(&self, _client: u32) {}
 }
 
-// The mixed log, and the roller of all of it.
-#[derive(Drop)]
-struct MixedLog {
+// Whether one more of the roller of both parts, by so many threads, is the same as the whole.
+fn is_as_whole<R: Threads + Sync>(
+    rt: &R,
+    alloc: Global,
     shape: Shape,
-    entries: Vec<Shared<Entry>>,
-    whole: Roller,
-    ghost good: { IsGoodShape shape },
+    entries: &[Shared<Entry>],
+    whole: &Roller,
+    place: usize,
+    threads: usize,
+) -> Result<bool, Fail>
+    requires good { IsGoodShape shape }
+    requires threads { IsThreadCount threads }
+{
+    let runtime = Runtime::new(rt, alloc, threads, &Passing);
+    let both = in_parts(&runtime, shape, entries, place)?;
+    let shared = both.share();
+    drop(both);
+    let shared = shared?;
+    let same = are_same(whole, &shared, 0);
+    drop(shared);
+    Ok(same)
 }
 
-impl MixedLog {
-    fn new<R: Threads + Sync>(rt: &R, alloc: Global, threads: usize) -> Result<MixedLog, Fail>
-        requires { IsThreadCount threads }
-    {
-        let shape = shape(2, 2, 24)?;
-        let entries = mixed(alloc)?;
-        let whole = rolled(
-            &Runtime::new(rt, alloc, threads, &OpenGate),
-            shape,
-            &entries,
-        )?;
-        Ok(MixedLog {
-            shape,
-            entries,
-            whole,
-        })
-    }
-
-    // Whether one more of the roller of both parts, by so many threads, is the same as the whole.
-    fn is_as_whole<R: Threads + Sync>(
-        &self,
-        rt: &R,
-        alloc: Global,
-        place: usize,
-        threads: usize,
-    ) -> Result<bool, Fail>
-        requires { IsThreadCount threads }
-    {
-        let runtime = Runtime::new(rt, alloc, threads, &Passing);
-        let both = in_parts(&runtime, self.shape, &self.entries, place)?;
-        let shared = both.share();
-        drop(both);
-        let shared = shared?;
-        let same = are_same(&self.whole, &shared, 0);
-        drop(shared);
-        Ok(same)
-    }
-
-    // Whether a cut of the log rolls as the whole, by any number of threads.
-    fn is_cut_well<R: Threads + Sync>(
-        &self,
-        rt: &R,
-        alloc: Global,
-        place: usize,
-    ) -> Result<bool, Fail> {
-        for threads in [1, 2, 16] {
-            if !self.is_as_whole(rt, alloc, place, threads)? {
-                return Ok(false);
-            }
+// Whether a cut of the log rolls as the whole, by any number of threads.
+fn is_cut_well<R: Threads + Sync>(
+    rt: &R,
+    alloc: Global,
+    shape: Shape,
+    entries: &[Shared<Entry>],
+    whole: &Roller,
+    place: usize,
+) -> Result<bool, Fail>
+    requires { IsGoodShape shape }
+{
+    for threads in [1, 2, 16] {
+        if !is_as_whole(rt, alloc, shape, entries, whole, place, threads)? {
+            return Ok(false);
         }
-        Ok(true)
     }
-
-    // Whether a roller that is resumed at a place goes on by the rest of the log as the whole.
-    fn goes_on_from<R: Threads + Sync>(
-        &self,
-        rt: &R,
-        alloc: Global,
-        place: usize,
-    ) -> Result<bool, Fail> {
-        if self.entries.len() < place {
-            return Err(Fail::new("the log is shorter"));
-        }
-        let (front, rest) = self.entries.split_at(place);
-        let runtime = Runtime::new(rt, alloc, 2, &OpenGate);
-        let again = resumed_behind(&runtime, self.shape, front)?;
-        let end = further(&runtime, self.shape, &again, rest)?;
-        Ok(is_end_of(&end, &self.whole, &again))
-    }
+    Ok(true)
 }
 
-// The first place at which the mixed log, cut, doesn't roll as the whole.
-fn first_cut_astray<R: Threads + Sync>(rt: &R, alloc: Global) -> Result<Option<usize>, Fail> {
-    let log = MixedLog::new(rt, alloc, 1)?;
+// Whether each cut of the log rolls as the whole.
+fn are_cut_well<R: Threads + Sync>(
+    rt: &R,
+    alloc: Global,
+    shape: Shape,
+    entries: &[Shared<Entry>],
+    whole: &Roller,
+) -> Result<bool, Fail>
+    requires { IsGoodShape shape }
+{
     for place in [0, 2, 4, 6, 10, 12, 18, 24] {
-        if !log.is_cut_well(rt, alloc, place)? {
-            return Ok(Some(place));
+        if !is_cut_well(rt, alloc, shape, entries, whole, place)? {
+            return Ok(false);
         }
     }
-    Ok(None)
+    Ok(true)
+}
+
+fn is_mixed_cut_well<R: Threads + Sync>(rt: &R, alloc: Global) -> Result<bool, Fail> {
+    let shape = shape(2, 2, 24)?;
+    let entries = mixed(alloc)?;
+    let whole = rolled(&Runtime::new(rt, alloc, 1, &OpenGate), shape, &entries)?;
+    let well = are_cut_well(rt, alloc, shape, &entries, &whole);
+    drop(whole);
+    drop(entries);
+    well
 }
 
 #[test]
 fn each_cut_rolls_the_same(rt: HostRuntime) -> Result<(), Fail> {
-    assert_eq!(rt; first_cut_astray(&rt, rt.alloc())?, None);
+    assert!(rt; is_mixed_cut_well(&rt, rt.alloc())?);
     Ok(())
 }
 
@@ -592,16 +571,17 @@ fn resumed(
 }
 
 // A roller that is resumed behind these entries.
-fn resumed_behind<R: Threads + Sync, G: Gate + Sync>(
-    runtime: &Runtime<R, G>,
+fn resumed_behind<R: Threads + Sync>(
+    rt: &R,
+    alloc: Global,
     shape: Shape,
     entries: &[Shared<Entry>],
 ) -> Result<Roller, Fail>
     requires { IsGoodShape shape }
     ensures { IfOk result (λ r. r.shape ≡ shape) }
 {
-    let part = rolled(runtime, shape, entries)?;
-    let again = resumed(runtime.alloc, shape, entries, &part);
+    let part = rolled(&Runtime::new(rt, alloc, 2, &OpenGate), shape, entries)?;
+    let again = resumed(alloc, shape, entries, &part);
     drop(part);
     again
 }
@@ -612,15 +592,70 @@ fn is_end_of(end: &Roller, whole: &Roller, again: &Roller) -> bool {
     bounds(again, from) && are_same(whole, end, from) && end.verdict(from) == Told::Past { from }
 }
 
+// Whether a roller that was resumed goes on by the rest of a log as the whole.
+fn goes_on<R: Threads + Sync>(
+    rt: &R,
+    alloc: Global,
+    shape: Shape,
+    rest: &[Shared<Entry>],
+    whole: &Roller,
+    again: &Roller,
+) -> Result<bool, Fail>
+    requires good { IsGoodShape shape }
+    requires same { again.now.shape ≡ shape }
+{
+    let end = further(&Runtime::new(rt, alloc, 2, &OpenGate), shape, again, rest)?;
+    let is_end = is_end_of(&end, whole, again);
+    drop(end);
+    Ok(is_end)
+}
+
+fn goes_on_from<R: Threads + Sync>(
+    rt: &R,
+    alloc: Global,
+    shape: Shape,
+    entries: &[Shared<Entry>],
+    whole: &Roller,
+    place: usize,
+) -> Result<bool, Fail>
+    requires { IsGoodShape shape }
+{
+    if entries.len() < place {
+        return Err(Fail::new("the log is shorter"));
+    }
+    let (front, rest) = entries.split_at(place);
+    let again = resumed_behind(rt, alloc, shape, front)?;
+    let goes = goes_on(rt, alloc, shape, rest, whole, &again);
+    drop(again);
+    goes
+}
+
 // The first place at which a resumed roller doesn't go on as the whole.
-fn first_place_astray<R: Threads + Sync>(rt: &R, alloc: Global) -> Result<Option<usize>, Fail> {
-    let log = MixedLog::new(rt, alloc, 2)?;
+fn first_astray<R: Threads + Sync>(
+    rt: &R,
+    alloc: Global,
+    shape: Shape,
+    entries: &[Shared<Entry>],
+    whole: &Roller,
+) -> Result<Option<usize>, Fail>
+    requires { IsGoodShape shape }
+{
     for place in [0, 2, 4, 6, 12, 14, 22, 24] {
-        if !log.goes_on_from(rt, alloc, place)? {
+        if !goes_on_from(rt, alloc, shape, entries, whole, place)? {
             return Ok(Some(place));
         }
     }
     Ok(None)
+}
+
+fn first_place_astray<R: Threads + Sync>(rt: &R, alloc: Global) -> Result<Option<usize>, Fail> {
+    let shape = shape(2, 2, 24)?;
+    let entries = mixed(alloc)?;
+    let whole = rolled(&Runtime::new(rt, alloc, 2, &OpenGate), shape, &entries)?;
+    let astray = first_astray(rt, alloc, shape, &entries, &whole);
+    drop(whole);
+    drop(entries);
+    astray
 }
 
 #[test]
