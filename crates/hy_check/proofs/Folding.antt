@@ -4,7 +4,7 @@ use Rattle.std.specs.Prelude.{◌==◌}
 use Rattle.hy_base.specs.declared.layout.Shape.{Shape}
 use Rattle.hy_base.specs.declared.record.Row.{Row}
 use Rattle.hy_base.specs.Shape.{base_groups, kept_groups}
-use Rattle.hy_rolling.proofs.Windows.{next_window, opened_base, stayed_base, stayed_kept}
+use Rattle.hy_roll_laws.proofs.Windows.{next_window, opened_base, stayed_base, stayed_kept}
 
 module _ (s : Shape) (n : ℕ) (some : 0 < s.window) (rows_at : ℕ → List Row) where
   -- the last group of a window leaves its own rows

@@ -18,8 +18,8 @@ use Rattle.hy_rules.specs.Members.{standing_as, earliest}
 use Rattle.hy_rules.specs.Validation.{Standing, Filling, Dropped, Joined, touched, first_clash, dropped_or_joined, standing_of, joined_writes, standings, late_conflicts, fate_of, fated, group_verdicts}
 use Rattle.hy_rules.proofs.Groups.{first_clash-append}
 use Rattle.hy_rules.proofs.Growth.{all_up_to}
-use Rattle.hy_rolling.proofs.LastWriters.{by_last_writers, first_late_is}
-use Rattle.hy_rolling.proofs.Advance.{late_is_touched}
+use Rattle.hy_roll_laws.proofs.LastWriters.{by_last_writers, first_late_is}
+use Rattle.hy_roll_laws.proofs.Advance.{late_is_touched}
 
 -- in rows up to a position, the first that an intention touches past another
 pub first_between : (i : Intention) (after upto : ℕ) (rows : List Row) → IsOrdered rows → Each (λ r. r.writer ≤ upto) rows → first_late (known_to after i) rows ≡ first_clash (touched i (written_between after upto rows))

@@ -8,7 +8,7 @@ use Rattle.hy_formats.specs.EntryFormat.{spelling}
 use Rattle.hy_formats.specs.LogDevice.{Holds}
 use Rattle.hy_formats.specs.declared.header.Header.{Header}
 use Rattle.hy_log.specs.View.{LogView, header_of}
-use Rattle.hy_rolling.specs.Rolling.{Roll}
+use Rattle.hy_roll_laws.specs.Rolling.{Roll}
 use Rattle.hy_disk.specs.Moments.{LeavesSince}
 use Rattle.hy_hub.specs.Past.{HasStood}
 use Rattle.hy_hub.specs.Initial.{IsInitial}

@@ -9,7 +9,7 @@ use Rattle.hy_base.specs.Lists.{nth, change_nth}
 use Rattle.hy_base.specs.Script.{Workload}
 use Rattle.hy_base.proofs.ListLemmas.{all_map}
 use Rattle.hy_base.proofs.NthLemmas.{all_nth, nth_in_map}
-use Rattle.hy_rolling.specs.Rolling.{Roll, rolled_upto}
+use Rattle.hy_roll_laws.specs.Rolling.{Roll, rolled_upto}
 use Rattle.hy_rules.specs.Moves.{board_of, keeping, least_kept}
 use Rattle.hy_core.specs.CoreParts.{Holding, IsHolding, IsServerBoard, kept_rollers, keeping_rolls, newest_upto, state_in_course}
 use Rattle.hy_core.proofs.Boards.{boards_grow}

@@ -9,7 +9,7 @@ use Rattle.hy_base.specs.Shape.{IsWithin}
 use Rattle.hy_base.specs.Lists.{nth, change_nth}
 use Rattle.hy_base.specs.Script.{Workload, IsScript}
 use Rattle.hy_base.proofs.NthLemmas.{nth_some, map_change, length_change, all_nth}
-use Rattle.hy_rolling.specs.Rolling.{Roll, rolled_upto, roll_on}
+use Rattle.hy_roll_laws.specs.Rolling.{Roll, rolled_upto, roll_on}
 use Rattle.hy_rules.specs.Moves.{State, board_of, is_declared, is_whole, keeping}
 use Rattle.hy_rules.specs.Runs.{setting_of, may_happen}
 use Rattle.hy_core.specs.CoreParts.{Holding, IsHolding, IsServerBoard, MovesOn, RolledBoard, StepsTo, entries_between, furthest, keeping_rolls, moving_on, state_in_course, done_of}

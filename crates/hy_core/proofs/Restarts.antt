@@ -21,7 +21,7 @@ use Rattle.hy_base.specs.Log.{IsLawful}
 use Rattle.hy_base.specs.Lists.{nth, change_nth}
 use Rattle.hy_base.specs.Script.{Workload, IsScript}
 use Rattle.hy_base.specs.Limits.{most_clients}
-use Rattle.hy_rolling.specs.Rolling.{Roll, rolled_upto}
+use Rattle.hy_roll_laws.specs.Rolling.{Roll, rolled_upto}
 use Rattle.hy_rules.specs.Moves.{Setting, State, appended, is_kept, surviving, missing, after, is_begun, abandoned, at_next_program, restarted}
 use Rattle.hy_rules.specs.Runs.{Ended, ByStop, ByEntryAt, added, own_entry, ended, ended_by_append, setting_of, snap_of, begun_snap, lost_by_stop}
 use Rattle.hy_core.specs.declared.running.Running.{Running}

@@ -11,7 +11,7 @@ use Rattle.hy_base.specs.Entry.{FitsVersion}
 use Rattle.hy_base.specs.Log.{IsLawful}
 use Rattle.hy_base.specs.Script.{Workload, IsScript, IsClient}
 use Rattle.hy_base.proofs.NthLemmas.{All-nth}
-use Rattle.hy_rolling.specs.Rolling.{Roll}
+use Rattle.hy_roll_laws.specs.Rolling.{Roll}
 use Rattle.hy_rules.specs.Moves.{is_kept, is_begun}
 use Rattle.hy_rules.specs.Runs.{may_happen}
 use Rattle.hy_memlog.specs.Pages.{Pages, broken_log}

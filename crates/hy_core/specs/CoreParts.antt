@@ -18,7 +18,7 @@ use Rattle.hy_base.specs.Log.{IsLawful}
 use Rattle.hy_base.specs.Script.{Workload, home_of}
 use Rattle.hy_rules.specs.Validation.{live}
 use Rattle.hy_rules.specs.Exec.{Effects, exec, intention}
-use Rattle.hy_rolling.specs.Rolling.{Roll, rolled_upto, Stands}
+use Rattle.hy_roll_laws.specs.Rolling.{Roll, rolled_upto, Stands}
 use Rattle.hy_base.specs.Shape.{is_within, whole_groups}
 use Rattle.hy_rules.specs.Moves.{State, Start, On, Past, NotYet, surviving, client_passes, is_begun, fresh_session, after}
 use Rattle.hy_rules.specs.Runs.{snap_of, Ending, ByStop, Ended, answers_to, setting_of, leaves_write, added, ended_by, is_done}

@@ -4,7 +4,7 @@ ghost use Rattle.std.specs.List.{last_or};
 ghost use Rattle.std.specs.Option.{option_copied};
 ghost use Rattle.hy_base.specs.Lists.{nth, change_nth};
 ghost use Rattle.hy_base.specs.Shape.{IsWithin};
-ghost use Rattle.hy_rolling.specs.Rolling.{rolled_upto};
+ghost use Rattle.hy_roll_laws.specs.Rolling.{rolled_upto};
 ghost use Rattle.hy_core.specs.CoreParts.{keeping_rolls, newest_upto};
 
 use hy_base::Pos;
@@ -20,7 +20,7 @@ pub(crate) struct Earlier {
 
 impl Model for Earlier {
     ghost use Rattle.std.specs.Prelude.{List};
-    ghost use Rattle.hy_rolling.specs.Rolling.{Roll};
+    ghost use Rattle.hy_roll_laws.specs.Rolling.{Roll};
 
     ghost Value = { List Roll };
 

@@ -18,7 +18,7 @@ use Rattle.hy_formats.specs.LogFormat.{are_zeros, byte_at, longest_body}
 use Rattle.hy_formats.specs.Reading.{◌>>=◌}
 use Rattle.hy_formats.specs.StreamFormat.{Streamed, streamed_shape, head_judged, told_length, length_fault, with_head, with_length, with_body, frame_judged, judged}
 use Rattle.hy_rules.proofs.Growth.{snaps_push}
-use Rattle.hy_rolling.specs.Rolling.{Roll, rolled_upto, new_roll, Stands}
+use Rattle.hy_roll_laws.specs.Rolling.{Roll, rolled_upto, new_roll, Stands}
 use Rattle.hy_roller.proofs.Standing.{new_roll_stands}
 use Rattle.hy_follow.specs.Following.{Following, HoldsWhatCame, IsRollOf, IsRollingOf, shape_of, upto, came_count}
 use Rattle.hy_follow.specs.Steps.{due, longest_frame, most_entries, IsSized, HasFrameRoom, IsAwaited, IsJudged, with_fault, after_head, after_length, after_body, judged_by, after_judging}

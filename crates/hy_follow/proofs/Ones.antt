@@ -8,7 +8,7 @@ use Rattle.hy_base.specs.Shape.{base_groups, kept_groups, whole_groups}
 use Rattle.hy_formats.specs.StreamFormat.{came}
 use Rattle.hy_rules.specs.History.{commits_past}
 use Rattle.hy_rules.specs.Validation.{verdicts_after, rows_after}
-use Rattle.hy_rolling.specs.Rolling.{Roll, rolled_upto}
+use Rattle.hy_roll_laws.specs.Rolling.{Roll, rolled_upto}
 use Rattle.hy_follow.specs.Following.{IsRollOf, IsRollingOf, shape_of, upto}
 use Rattle.hy_follow.specs.FollowLaws.{OneFollower}
 

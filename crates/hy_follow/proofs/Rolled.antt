@@ -11,8 +11,8 @@ use Rattle.hy_base.proofs.GroupLemmas.{whole_is_whole}
 use Rattle.hy_formats.specs.StreamFormat.{Streamed, came}
 use Rattle.hy_rules.specs.Validation.{verdicts_after, rows_after}
 use Rattle.hy_rules.proofs.Growth.{snaps_take, snaps_drop}
-use Rattle.hy_rolling.specs.Rolling.{Roll, rolled_upto, roll_on, Stands}
-use Rattle.hy_rolling.proofs.Cuts.{rolled_on}
+use Rattle.hy_roll_laws.specs.Rolling.{Roll, rolled_upto, roll_on, Stands}
+use Rattle.hy_roll_laws.proofs.Cuts.{rolled_on}
 use Rattle.hy_roller.specs.RollerLaws.{GrowthKeepsStanding}
 use Rattle.hy_roller.proofs.Standing.{roll_stands}
 use Rattle.hy_follow.specs.Following.{Following, HoldsWhatCame, IsRollOf, IsRollingOf, shape_of, upto, came_count}

@@ -8,7 +8,7 @@ use Rattle.std.proofs.lemmas.Bool.{cases_lt}
 use Rattle.hy_base.specs.declared.layout.Shape.{Shape}
 use Rattle.hy_formats.specs.declared.damage.BadFrame.{BadFrame}
 use Rattle.hy_formats.specs.StreamFormat.{Streamed, told_length, judged, taken, came}
-use Rattle.hy_rolling.specs.Rolling.{Roll}
+use Rattle.hy_roll_laws.specs.Rolling.{Roll}
 use Rattle.hy_follow.specs.Following.{Following, HoldsWhatCame, HasFollowed, shape_of}
 use Rattle.hy_follow.specs.Steps.{due, HasFrameRoom, IsAwaited, IsJudged, TakesAll, TakesSome, holding, after_judging, after_rolling}
 use Rattle.hy_follow.proofs.Streams.{taken-append, came-append, bad_taken, waiting_at, some_taken, few_taken, due_kept, due_low, due_high}

@@ -8,7 +8,7 @@ use Rattle.hy_base.specs.Shape.{IsGoodShape}
 use Rattle.hy_base.specs.Log.{IsLawful}
 use Rattle.hy_formats.specs.StreamFormat.{came, streamed, stream_bytes}
 use Rattle.hy_rules.specs.Validation.{verdicts, rows}
-use Rattle.hy_rolling.specs.Rolling.{Roll}
+use Rattle.hy_roll_laws.specs.Rolling.{Roll}
 use Rattle.hy_follow.specs.Following.{Following, HasFollowed}
 
 -- The stream of a lawful log is whole, and tells its shape and its entries.

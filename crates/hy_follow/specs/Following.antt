@@ -11,7 +11,7 @@ use Rattle.hy_base.specs.Log.{IsLawful}
 use Rattle.hy_formats.specs.declared.damage.Damage.TheVariants as damage
 use Rattle.hy_formats.specs.declared.damage.BadFrame.{BadFrame}
 use Rattle.hy_formats.specs.StreamFormat.{Streamed, came}
-use Rattle.hy_rolling.specs.Rolling.{Roll, IsTreeOf, rolled_upto, Stands}
+use Rattle.hy_roll_laws.specs.Rolling.{Roll, IsTreeOf, rolled_upto, Stands}
 use Rattle.hy_roller.specs.declared.roller.Told.{Told}
 use Rattle.hy_roller.specs.declared.roller.Told.TheVariants.{NotYet, Past}
 use Rattle.hy_roller.specs.Telling.{told}

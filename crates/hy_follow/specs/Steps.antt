@@ -9,7 +9,7 @@ use Rattle.hy_formats.specs.declared.damage.BadEntry.{BadEntry}
 use Rattle.hy_formats.specs.declared.damage.BadFrame.{BadFrame}
 use Rattle.hy_formats.specs.EntryFormat.{decoded_at}
 use Rattle.hy_formats.specs.StreamFormat.{Streamed, head_judged, told_length, length_fault, taken}
-use Rattle.hy_rolling.specs.Rolling.{Roll, new_roll, roll_on}
+use Rattle.hy_roll_laws.specs.Rolling.{Roll, new_roll, roll_on}
 use Rattle.hy_follow.specs.Following.{Following, HoldsWhatCame, shape_of, came_count}
 
 -- ---- what every follower keeps

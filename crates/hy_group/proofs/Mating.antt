@@ -6,7 +6,7 @@ use Rattle.hy_base.specs.declared.record.Clash.{Clash}
 use Rattle.hy_base.specs.Rows.{Each, WritersRise, newest}
 use Rattle.hy_base.specs.Marks.{MarkSet, AreMarks, clash, known_to}
 use Rattle.hy_rules.specs.Validation.{touched, first_clash}
-use Rattle.hy_rolling.proofs.Mates.{join_is_mate}
+use Rattle.hy_roll_laws.proofs.Mates.{join_is_mate}
 
 pub mate : (rows joined : List Row) (known : ℕ) (i : Intention) (m : MarkSet) (writes : List Row) (found : Option Clash) → WritersRise joined → Each (λ r. known < r.writer) joined → rows ≡ newest joined → AreMarks (known_to known i) writes m → clash rows m.pairs ≡ found
     → first_clash (touched i joined) ≡ found

@@ -5,7 +5,7 @@ use Rattle.hy_base.specs.declared.record.Intention.{Intention}
 use Rattle.hy_base.specs.Rows.{Each, WritersRise, rows_at, newest}
 use Rattle.hy_base.specs.Marks.{MarkSet, AreMarks, IsMerged, clash, known_to}
 use Rattle.hy_rules.specs.Validation.{Standing, Joined as IsJoined, touched, first_clash}
-use Rattle.hy_rolling.specs.Rolling.{AreGroupMarks}
+use Rattle.hy_roll_laws.specs.Rolling.{AreGroupMarks}
 use Rattle.hy_group.specs.declared.group.Join.{Join}
 use Rattle.hy_group.specs.declared.group.Join.TheVariants.{Joined, Mate}
 

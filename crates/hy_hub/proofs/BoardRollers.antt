@@ -5,7 +5,7 @@ use Rattle.hy_base.specs.Lists.{nth}
 use Rattle.hy_base.proofs.NthLemmas.{All-nth, nth_map}
 use Rattle.hy_rules.specs.CutLogs.{starting_with}
 use Rattle.hy_rules.specs.Moves.{board_of}
-use Rattle.hy_rolling.specs.Rolling.{Roll, rolled_upto, Stands}
+use Rattle.hy_roll_laws.specs.Rolling.{Roll, rolled_upto, Stands}
 use Rattle.hy_hub.specs.Origin.{Origin}
 use Rattle.hy_hub.specs.declared.occurrence.Occurrence.{Occurrence}
 use Rattle.hy_hub.specs.declared.occurrence.Occurrence.TheVariants.{Opened, Happened, Halted, Lifted, Landed}

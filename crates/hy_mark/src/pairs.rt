@@ -157,10 +157,13 @@ impl MarkList {
     pub fn into_joined(self, alloc: Global, other: MarkList) -> Result<MarkList, AllocError>
         ensures { IfOk result (λ p. (key : ℕ) → dep p key ≡ lesser (dep self key) (dep other key)) }
     {
+        if self.marks.len() == 0 {
+            return Ok(other);
+        }
         if self.stands_before(&other) {
             return self.followed(other);
         }
-        self.with(alloc, other)
+        self.joined(alloc, &other)
     }
 
     // Whether each mark stands before this block.

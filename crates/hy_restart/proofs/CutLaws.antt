@@ -18,7 +18,7 @@ use Rattle.hy_rules.specs.Runs.{verdict_at}
 use Rattle.hy_rules.specs.SavedPoints.{StandsIfAny}
 use Rattle.hy_rules.specs.CutLogs.{IsWholeOf, AreLawfulPast, filled}
 use Rattle.hy_formats.specs.Checkpoint.{Checkpoint, IsCheckpoint}
-use Rattle.hy_rolling.specs.Rolling.{Roll, Stands}
+use Rattle.hy_roll_laws.specs.Rolling.{Roll, Stands}
 use Rattle.hy_roller.proofs.Standing.{verdict_past}
 use Rattle.hy_formats.specs.Restarting.{base_of, as_entries, as_point, not_ahead, not_behind, restart_in}
 use Rattle.hy_restart.specs.Restart.{IsRestarted}

@@ -17,8 +17,8 @@ use Rattle.hy_rules.specs.History.{commits_past, flagged_history}
 use Rattle.hy_rules.specs.RuleLaws.{AreSame}
 use Rattle.hy_rules.specs.SavedPoints.{IsPointOf, PointStands}
 use Rattle.hy_rules.proofs.Growth.{Follow, verdicts_follow, verdict_count, past_earlier, growth_keeps_rows, snaps_take}
-use Rattle.hy_rolling.specs.Rolling.{Roll, resumed, roll_on, Stands}
-use Rattle.hy_rolling.proofs.CommitLemmas.{commits_cut, commits_give_rows}
+use Rattle.hy_roll_laws.specs.Rolling.{Roll, resumed, roll_on, Stands}
+use Rattle.hy_roll_laws.proofs.CommitLemmas.{commits_cut, commits_give_rows}
 use Rattle.hy_formats.specs.Checkpoint.{Checkpoint, IsCheckpoint}
 use Rattle.hy_restart.specs.Resuming.{whole_front, restarted_roll}
 use Rattle.hy_restart.specs.CutLaws.{DecideAlike}

@@ -16,7 +16,7 @@ use Rattle.hy_rules.specs.Validation.{verdicts_after, rows_after, verdicts, live
 use Rattle.hy_rules.specs.Runs.{verdict_at}
 use Rattle.hy_rules.specs.SavedPoints.{StandsIfAny}
 use Rattle.hy_rules.specs.CutLogs.{IsWholeOf, AreLawfulPast, filled}
-use Rattle.hy_rolling.specs.Rolling.{Stands}
+use Rattle.hy_roll_laws.specs.Rolling.{Stands}
 use Rattle.hy_restart.specs.Resuming.{whole_front, restarted_roll}
 
 -- a log that wasn't cut has one whole log: its entries

@@ -10,7 +10,7 @@ use Rattle.hy_base.specs.Spelling.{Text}
 use Rattle.hy_formats.specs.Checkpoint.{Checkpoint}
 use Rattle.hy_formats.specs.LogDevice.{Holds}
 use Rattle.hy_formats.specs.Restarting.{IsStart, restart_in}
-use Rattle.hy_rolling.specs.Rolling.{Roll}
+use Rattle.hy_roll_laws.specs.Rolling.{Roll}
 use Rattle.hy_rules.specs.SavedPoints.{IsFit, IsLeftBySave}
 use Rattle.hy_disk.specs.Content.{Content, Image, settled}
 use Rattle.hy_disk.specs.Moments.{LeavesOnly, OnlyReads}

@@ -15,7 +15,7 @@ use Rattle.hy_follow.specs.declared.follower.FeedError.TheVariants as feeding
 use Rattle.hy_follow.specs.FollowLaws.{FollowerDecides}
 use Rattle.hy_follow.specs.Following.{Following, HasFollowed, rows_held, shape_of, verdicts_held}
 use Rattle.hy_formats.specs.Texts.{check_text}
-use Rattle.hy_rolling.specs.Rolling.{Roll}
+use Rattle.hy_roll_laws.specs.Rolling.{Roll}
 use Rattle.hy_rules.specs.History.{live_rows}
 use Rattle.hy_formats.specs.StreamFormat.{Streamed, came, end_fault, streamed, unless_bad}
 use Rattle.hy_formats.specs.declared.damage.BadFrame.{BadFrame}

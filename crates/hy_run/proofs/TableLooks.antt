@@ -21,11 +21,11 @@ use Rattle.hy_rules.specs.CutLogs.{IsWholeOf}
 use Rattle.hy_rules.specs.SavedPoints.{StandsIfAny}
 use Rattle.hy_rules.specs.SoundTables.{is_right, table_fault}
 use Rattle.hy_rules.specs.TableRuns.{OpensSound, opening_fault}
-use Rattle.hy_rolling.specs.Rolling.{Roll, rolled_upto}
+use Rattle.hy_roll_laws.specs.Rolling.{Roll, rolled_upto}
 use Rattle.hy_restart.specs.Restart.{IsRestarted}
 use Rattle.hy_restart.specs.Resuming.{start_of}
 use Rattle.hy_restart.proofs.CutLaws.{whole_size}
-use Rattle.hy_opening.specs.Looks.{OpeningLooksTell, looked, soon}
+use Rattle.hy_table_look.specs.Looks.{OpeningLooksTell, looked, soon}
 use Rattle.hy_rules.specs.History.{pairs_of}
 use Rattle.std.specs.Option.{option_or}
 use Rattle.hy_tables.specs.TableLaws.{OpeningFaultTells}

@@ -1,5 +1,5 @@
 use Rattle.std.proofs.Common.{◌≡◌, ◌∙◌, ◌%◌, ◌+◌, List, sym, ap, subst, inl, inr}
-use Rattle.hy_rolling.specs.Rolling.{roll_on, rolled_upto}
+use Rattle.hy_roll_laws.specs.Rolling.{roll_on, rolled_upto}
 use Rattle.hy_hub.specs.Calls.{IsRollable, len_of}
 use Rattle.hy_hub.specs.declared.occurrence.Backlog.{Backlog}
 use Rattle.hy_hub.proofs.Holding.{own_of_one}

@@ -1,5 +1,5 @@
 use Rattle.std.proofs.Common.{◌≡◌}
-use Rattle.hy_rolling.specs.Rolling.{roll_on, rolled_upto}
+use Rattle.hy_roll_laws.specs.Rolling.{roll_on, rolled_upto}
 use Rattle.hy_hub.specs.Calls.{IsRollable, len_of}
 use Rattle.hy_clients.specs.Passing.{IsRunPass}
 use Rattle.hy_clients.proofs.closing.nearest_look.Given as goal

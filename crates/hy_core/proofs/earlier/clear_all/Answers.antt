@@ -1,6 +1,6 @@
 use Rattle.std.proofs.Common.{◌∙◌, List, [], ap, arith}
 use Rattle.std.specs.Prelude.{slice_set}
-use Rattle.hy_rolling.specs.Rolling.{Roll}
+use Rattle.hy_roll_laws.specs.Rolling.{Roll}
 use Rattle.hy_core.proofs.Settling.{changed_next}
 use Rattle.hy_core.proofs.earlier.clear_all.Goals as goal
 

@@ -1,7 +1,7 @@
 use Rattle.std.proofs.Common.{◌≡◌, ◌∙◌, ◌≤◌, ◌+◌, ◌%◌, length, sym, ap, subst}
 use Rattle.std.proofs.lemmas.Result.{IfOk-weaker}
 use Rattle.hy_base.specs.Lists.{nth}
-use Rattle.hy_rolling.specs.Rolling.{rolled_upto, roll_on}
+use Rattle.hy_roll_laws.specs.Rolling.{rolled_upto, roll_on}
 use Rattle.hy_core.specs.CoreParts.{Holding, log_held, entries_between, furthest}
 use Rattle.hy_core.proofs.Publishes.{can_roll}
 use Rattle.hy_core.proofs.moves.rolled_board.Goals as goal

@@ -2,7 +2,7 @@ use Rattle.std.proofs.Common.{◌≡◌, ◌∙◌, ◌+◌, ◌%◌, ◌≤◌,
 use Rattle.std.proofs.lemmas.Result.{IfOk-weaker}
 use Rattle.hy_base.specs.Lists.{nth}
 use Rattle.hy_rules.specs.History.{pairs_of}
-use Rattle.hy_rolling.specs.Rolling.{rolled_upto, roll_on}
+use Rattle.hy_roll_laws.specs.Rolling.{rolled_upto, roll_on}
 use Rattle.hy_core.specs.CoreParts.{Holding, log_held, entries_between}
 use Rattle.hy_core.proofs.Beginning.{can_give, declared_list, given_live, none_given, rolled_live}
 use Rattle.hy_core.proofs.Publishing.{declared_board}

@@ -1,5 +1,5 @@
 use Rattle.std.proofs.Common.{rules, ◌≡◌, ◌-◌, take, drop, ap, ◌∙◌}
-use Rattle.hy_rolling.specs.Rolling.{rolled_upto}
+use Rattle.hy_roll_laws.specs.Rolling.{rolled_upto}
 use Rattle.hy_hub.proofs.Wholes.{part_later}
 use Rattle.hy_hub.proofs.contents.backlog_of.Goals as goal
 

@@ -4,9 +4,9 @@ use Rattle.hy_base.specs.declared.layout.Shape.{Shape}
 use Rattle.hy_base.specs.declared.record.Row.{Row}
 use Rattle.hy_base.specs.Shape.{IsWithin, base_groups, before_horizon}
 use Rattle.hy_base.specs.Rows.{Agrees, Each}
-use Rattle.hy_rolling.specs.Rolling.{Roll, rolled_upto, next_base}
+use Rattle.hy_roll_laws.specs.Rolling.{Roll, rolled_upto, next_base}
 use Rattle.hy_formats.specs.Checkpoint.{base_behind}
-use Rattle.hy_rolling.proofs.RollLemmas.{writers_within}
+use Rattle.hy_roll_laws.proofs.RollLemmas.{writers_within}
 use Rattle.hy_roller.specs.RollerLaws.{IsRoller}
 use Rattle.run_tests.proofs.roller.start_of.Goals as goal
 

@@ -1,7 +1,7 @@
 use Rattle.std.proofs.Common.{rules, ◌≡◌, ◌-◌, length, map, Some, None, ap, sym, ◌∙◌}
 use Rattle.std.specs.Prelude.{option_map, slice_get}
 use Rattle.std.specs.List.{last_or}
-use Rattle.hy_rolling.specs.Rolling.{rolled_upto}
+use Rattle.hy_roll_laws.specs.Rolling.{rolled_upto}
 use Rattle.hy_core.proofs.Kept.{last_at}
 use Rattle.hy_core.proofs.earlier.Earlier.least.Goals as goal
 

@@ -1,6 +1,6 @@
 use Rattle.std.proofs.Common.{rules, None, sym, subst, ◌∙◌}
 use Rattle.hy_base.specs.Marks.{MarkSet, IsMerged}
-use Rattle.hy_rolling.proofs.Dependencies.{joined_group}
+use Rattle.hy_roll_laws.proofs.Dependencies.{joined_group}
 use Rattle.hy_group.proofs.Mating.{mate}
 use Rattle.hy_group.proofs.group.Group.join.Goals as goal
 

@@ -1,0 +1,5 @@
+use Rattle.hy_cut_laws.proofs.CutRuns.{serial_from_found as law}
+use Rattle.hy_cut_laws.proofs.laws.serial_from_found.Goals as goal
+
+pub returns : goal.returns
+returns c = law
