@@ -1,5 +1,5 @@
 -- What the typed getters read of values that clap took.
-use Rattle.std.proofs.Common.{◌≡◌, ◌∙◌, ◌<◌, ◌≤◌, ◌^◌, ◌||◌, true≢false, ℕ, Bool, true, false, refl, sym, ap, subst, arith, List, ◌∷◌, [], drop, Option, Some, None, codes, Result, Ok, Err, unwrap_or, is_some}
+use Rattle.std.proofs.Common.{◌≡◌, ◌∙◌, ◌<◌, ◌≤◌, ◌^◌, ◌||◌, true≢false, ℕ, Bool, true, false, refl, sym, ap, subst, arith, List, ◌∷◌, [], drop, map, Option, Some, None, codes, Result, Ok, Err, unwrap_or, is_some}
 use Rattle.std.specs.Str.{bytes_eq}
 use Rattle.std.specs.Str.Parse.{ParsesUnsigned, digits_value, without_leading_plus}
 use Rattle.clap.specs.Words.{Row, one_of, one_text, rows_of}
@@ -11,7 +11,7 @@ use Rattle.clap.proofs.WalkLemmas.{both, one_text-rows}
 use Rattle.std.proofs.lemmas.Slice.Eq.{bytes_eq-Decides}
 use Rattle.hy_base.specs.Spelling.{Text}
 use Rattle.std.specs.List.{find}
-use Rattle.hy_cli.specs.CommandLine.{CliCommand, check_command, command_named, commands, compact_command, follow_command, load_command, point_option, recover_command, run_command, save_option, seed_option, ship_command, sim_command, size_option, threads_option}
+use Rattle.hy_cli.specs.CommandLine.{CliCommand, command_named, commands, compact_command, follow_command, load_command, point_option, report_command, reports, run_command, save_option, seed_option, sim_command, size_option, threads_option}
 use Rattle.hy_cli.specs.Matches.{choices_found, has_accepted, is_accepted}
 use Rattle.hy_cli.proofs.Walks.{flag_opt, number_opt}
 
@@ -51,32 +51,30 @@ reads_flag needed f id r none on off accepted = go (one_of id (rows_of f)) refl
     go None is = rw (is, none (same ∙ is)) refl
     go (Some t) is = rw is (read t is (bytes_eq t (codes "true")) (bytes_eq t (codes "false")) refl refl (rw is at accepted))
 
--- a name of a command isn't that of the first one, so it is of one of the others
-later : (word name : Text) (more : List CliCommand) → (name ≡ word → ⊥) → (c : CliCommand) → c.name ≡ word → is_some (find (λ c. bytes_eq c.name name) (c ∷ more)) ≡ true
-    → is_some (find (λ c. bytes_eq c.name name) more) ≡ true
-later word name more other c is known = go (bytes_eq c.name name) refl
+-- a name that isn't that of the first command is looked for among the others
+passed : (word name : Text) (more : List CliCommand) → (name ≡ word → ⊥) → (c : CliCommand) → c.name ≡ word → find (λ c. bytes_eq c.name name) (c ∷ more) ≡ find (λ c. bytes_eq c.name name) more
+passed word name more other c is = go (bytes_eq c.name name) refl
   where
-    go : (b : Bool) → bytes_eq c.name name ≡ b → is_some (find (λ c. bytes_eq c.name name) more) ≡ true
+    go : (b : Bool) → bytes_eq c.name name ≡ b → find (λ c. bytes_eq c.name name) (c ∷ more) ≡ find (λ c. bytes_eq c.name name) more
     go true same = absurd (other (sym ((bytes_eq-Decides c.name name).0 same) ∙ is))
-    go false same = rw same at known
+    go false same = rw same refl
 
--- the last of the commands that a name can be
-pub load_left : (name : Text) → is_some (command_named name) ≡ true
-    → (name ≡ codes "recover" → ⊥) → (name ≡ codes "check" → ⊥) → (name ≡ codes "compact" → ⊥) → (name ≡ codes "ship" → ⊥) → (name ≡ codes "run" → ⊥) → (name ≡ codes "sim" → ⊥) → (name ≡ codes "follow" → ⊥)
-    → name ≡ codes "load"
-load_left name known recover check compact ship run sim follow =
-    let p1 = later (codes "run") name (drop 1 commands) run run_command refl known in
-    let p2 = later (codes "sim") name (drop 2 commands) sim sim_command refl p1 in
-    let p3 = later (codes "recover") name (drop 3 commands) recover recover_command refl p2 in
-    let p4 = later (codes "check") name (drop 4 commands) check check_command refl p3 in
-    let p5 = later (codes "compact") name (drop 5 commands) compact compact_command refl p4 in
-    let p6 = later (codes "ship") name (drop 6 commands) ship ship_command refl p5 in
-    let p7 = later (codes "follow") name (drop 7 commands) follow follow_command refl p6 in
-    last (bytes_eq (codes "load") name) refl p7
+-- where it is none of the others, it is that of a report
+pub report_left : (name : Text) → (name ≡ codes "run" → ⊥) → (name ≡ codes "sim" → ⊥) → (name ≡ codes "compact" → ⊥) → (name ≡ codes "follow" → ⊥) → (name ≡ codes "load" → ⊥)
+    → command_named name ≡ find (λ c. bytes_eq c.name name) (map report_command reports)
+report_left name run sim compact follow load =
+    passed (codes "run") name (drop 1 commands) run run_command refl ∙ passed (codes "sim") name (drop 2 commands) sim sim_command refl
+    ∙ passed (codes "compact") name (drop 3 commands) compact compact_command refl ∙ passed (codes "follow") name (drop 4 commands) follow follow_command refl
+    ∙ passed (codes "load") name (drop 5 commands) load load_command refl
+
+-- a command that was found has the name
+pub found_name : (cs : List CliCommand) (name : Text) (c : CliCommand) → find (λ c. bytes_eq c.name name) cs ≡ Some c → c.name ≡ name
+found_name [] name c e = cc e
+found_name (x ∷ cs) name c e = go (bytes_eq x.name name) refl (found_name cs name c)
   where
-    last : (b : Bool) → bytes_eq (codes "load") name ≡ b → is_some (find (λ c. bytes_eq c.name name) (load_command ∷ [])) ≡ true → name ≡ codes "load"
-    last true is _ = sym ((bytes_eq-Decides (codes "load") name).0 is)
-    last false is found = absurd (true≢false (sym (rw is at found)))
+    go : (b : Bool) → bytes_eq x.name name ≡ b → (find (λ c. bytes_eq c.name name) cs ≡ Some c → c.name ≡ name) → c.name ≡ name
+    go true same more = let first : x ≡ c = cc (rw same at e) in sym (ap (λ (y : CliCommand). y.name) first) ∙ (bytes_eq-Decides x.name name).0 same
+    go false same more = more (rw same at e)
 
 -- what a `run` has, a `sim`, a `follow`, and a `load`
 pub run_accepted : (name : Text) (rows : List Row) → name ≡ codes "run" → has_accepted name rows ≡ true

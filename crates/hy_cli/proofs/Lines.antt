@@ -10,10 +10,11 @@ use Rattle.clap.proofs.WalkLemmas.{walk_stopped}
 use Rattle.std.proofs.lemmas.Slice.Eq.{bytes_eq-Decides}
 use Rattle.hy_base.specs.Spelling.{Text}
 use Rattle.hy_base.specs.Limits.{most_threads, largest_load}
-use Rattle.hy_cli.specs.CommandLine.{CliCommand, CliOption, Given, check_command, choices_given, compact_command, follow_command, command_line, command_named, commands, given_all, line_of, load_command, point_option, recover_command, run_command, save_option, seed_option, ship_command, sim_command, size_option, threads_option}
+use Rattle.hy_cli.specs.CommandLine.{CliCommand, CliOption, Given, choices_given, follow_command, command_line, command_named, commands, given_all, line_of, load_command, point_option, report_command, reports, run_command, save_option, seed_option, sim_command, size_option, threads_option}
 use Rattle.hy_cli.specs.Matches.{choices_found, hyder_app, line_found, meant}
-use Rattle.hy_cli.specs.declared.line.Line.{Line}
-use Rattle.hy_cli.specs.declared.line.Line.TheVariants.{Run, Sim, Follow, Load}
+use Rattle.hy_cli.specs.declared.commands.Line.{Line}
+use Rattle.hy_cli.specs.declared.commands.Line.TheVariants.{Run, Sim, Follow, Load}
+use Rattle.hy_cli.specs.declared.commands.Report.{Report}
 use Rattle.hy_cli.proofs.Matches.{flag_same, number_same}
 use Rattle.hy_cli.proofs.Walks.{AreRight, built_rules, leaf_shape}
 use Rattle.hy_cli.proofs.Levels.{IsTable, leaf_takes, rows_of_all}
@@ -72,6 +73,28 @@ top = (built hyder_app).top
 abbrev pub names : Names
 names = names_of (built hyder_app)
 
+-- a command among those of the program
+abbrev leaf_of : CliCommand → Shape
+leaf_of c = leaf_shape c.name c.options
+
+-- what clap finds by a name is the command of that name
+found_as : {T : Type 0} (f : CliCommand → T) (label : T → Text × List Text) → ((c : CliCommand) → label (f c) ≡ (c.name, [])) → (cs : List CliCommand) (word : Text)
+    → find (λ t. answers_to word (label t)) (map f cs) ≡ option_map f (find (λ c. bytes_eq c.name word) cs)
+found_as f label same [] word = refl
+found_as f label same (c ∷ cs) word = go (bytes_eq c.name word) refl (found_as f label same cs word)
+  where
+    go : (b : Bool) → bytes_eq c.name word ≡ b → find (λ t. answers_to word (label t)) (map f cs) ≡ option_map f (find (λ c. bytes_eq c.name word) cs)
+        → find (λ t. answers_to word (label t)) (map f (c ∷ cs)) ≡ option_map f (find (λ c. bytes_eq c.name word) (c ∷ cs))
+    go true here more = rw (same c, here) refl
+    go false here more = rw (same c, here) more
+
+met_as : (word : Text) → subcommand_met names idle word ≡ option_map (λ c. c.name) (command_named word)
+met_as word = ap (option_map (λ (s : Text × List Text). s.0)) (found_as (λ c. (c.name, [])) (λ l. l) (λ c. refl) commands word) ∙ fused (command_named word)
+  where
+    fused : (found : Option CliCommand) → option_map (λ (s : Text × List Text). s.0) (option_map (λ c. (c.name, [])) found) ≡ option_map (λ c. c.name) found
+    fused None = refl
+    fused (Some c) = refl
+
 -- the command of this name has these options
 pub record Enters (name : Text) (options : List CliOption) : Type 0 where
   pub met : walked top.rules names (walk_from nothing_held) name ≡ record (walk_from nothing_held) { stopped = Some (name, []) }
@@ -79,37 +102,21 @@ pub record Enters (name : Text) (options : List CliOption) : Type 0 where
   pub found : find (λ s. answers_to name (label_of s)) (built hyder_app).subs ≡ Some (leaf_shape name options)
   pub table : IsTable options
 
-run_enters : Enters run_command.name run_command.options
+pub enters : (c : CliCommand) → command_named c.name ≡ Some c → IsTable c.options → Enters c.name c.options
 unfolding walked walk_passes
-run_enters = record { met = refl; passes = λ rest. refl; found = refl; table = run_table }
-
-sim_enters : Enters sim_command.name sim_command.options
-unfolding walked walk_passes
-sim_enters = record { met = refl; passes = λ rest. refl; found = refl; table = sim_table }
-
-recover_enters : Enters recover_command.name []
-unfolding walked walk_passes
-recover_enters = record { met = refl; passes = λ rest. refl; found = refl; table = no_table }
-
-check_enters : Enters check_command.name []
-unfolding walked walk_passes
-check_enters = record { met = refl; passes = λ rest. refl; found = refl; table = no_table }
-
-compact_enters : Enters compact_command.name []
-unfolding walked walk_passes
-compact_enters = record { met = refl; passes = λ rest. refl; found = refl; table = no_table }
-
-ship_enters : Enters ship_command.name []
-unfolding walked walk_passes
-ship_enters = record { met = refl; passes = λ rest. refl; found = refl; table = no_table }
-
-follow_enters : Enters follow_command.name follow_command.options
-unfolding walked walk_passes
-follow_enters = record { met = refl; passes = λ rest. refl; found = refl; table = sim_table }
-
-load_enters : Enters load_command.name load_command.options
-unfolding walked walk_passes
-load_enters = record { met = refl; passes = λ rest. refl; found = refl; table = load_table }
+enters c named table =
+    let met : subcommand_met names idle c.name ≡ Some c.name = met_as c.name ∙ ap (option_map (λ c. c.name)) named in
+    record {
+      met = rw met refl;
+      passes = λ rest. passes rest (bytes_eq c.name (codes "help")) refl met;
+      found = found_as leaf_of label_of (λ c. refl) commands c.name ∙ ap (option_map leaf_of) named;
+      table = table;
+    }
+  where
+    passes : (rest : List Text) (b : Bool) → bytes_eq c.name (codes "help") ≡ b → subcommand_met names idle c.name ≡ Some c.name
+        → walk_passes top names (walk_from nothing_held) (c.name ∷ rest) ≡ walk_passes top names (record (walk_from nothing_held) { stopped = Some (c.name, []) }) rest
+    passes rest true is met = rw (met, is) refl
+    passes rest false is met = rw (met, is) refl
 
 -- the words after the command's name are left to the command
 pub walk_ends : (name : Text) (options : List CliOption) → Enters name options → (rest : List Text)
@@ -131,7 +138,7 @@ takes_command program name options enters rest g e =
 
 -- the matches of a command mean what was given
 pub record IsTableRow (c : CliCommand) : Type 0 where
-  pub enters : Enters c.name c.options
+  pub table : IsTable c.options
   pub means : (g : Given) → AreRight c.options g → c.line (choices_found (rows_of_all c.options g)) ≡ c.line (choices_given g)
 
 abbrev AreTableRows : List CliCommand → Type 0
@@ -160,23 +167,18 @@ load_means g right =
     let threads = number_same load_command.options (codes "threads") 1 most_threads 2 threads_option g rows right refl refl refl refl in
     λ i. Load (seed i) (size i) (threads i)
 
+report_rows : (reports : List Report) → AreTableRows (map report_command reports)
+report_rows [] = tt
+report_rows (r ∷ reports) = (record { table = no_table; means = λ g right. refl }, report_rows reports)
+
 all_rows : AreTableRows commands
 all_rows = (
-  record { enters = run_enters; means = run_means },
+  record { table = run_table; means = run_means },
   (
-    record { enters = sim_enters; means = sim_means },
+    record { table = sim_table; means = sim_means },
     (
-      record { enters = recover_enters; means = λ g right. refl },
-      (
-        record { enters = check_enters; means = λ g right. refl },
-        (
-          record { enters = compact_enters; means = λ g right. refl },
-          (
-            record { enters = ship_enters; means = λ g right. refl },
-            (record { enters = follow_enters; means = follow_means }, (record { enters = load_enters; means = load_means }, tt)),
-          ),
-        ),
-      ),
+      record { table = no_table; means = λ g right. refl },
+      (record { table = sim_table; means = follow_means }, (record { table = load_table; means = load_means }, report_rows reports)),
     ),
   ),
 )
@@ -195,18 +197,9 @@ found_row (x ∷ cs) rows word c e = go (bytes_eq x.name word) refl (found_row c
 pub named_row : (word : Text) (c : CliCommand) → command_named word ≡ Some c → (c.name ≡ word) × IsTableRow c
 named_row word c e = found_row commands all_rows word c e
 
-none_answers : (cs : List CliCommand) (word : Text) → find (λ c. bytes_eq c.name word) cs ≡ None → find (answers_to word) (map (λ c. (c.name, [])) cs) ≡ None
-none_answers [] word e = refl
-none_answers (c ∷ cs) word e = go (bytes_eq c.name word) refl (none_answers cs word)
-  where
-    go : (b : Bool) → bytes_eq c.name word ≡ b → (find (λ c. bytes_eq c.name word) cs ≡ None → find (answers_to word) (map (λ c. (c.name, [])) cs) ≡ None)
-        → find (answers_to word) (map (λ c. (c.name, [])) (c ∷ cs)) ≡ None
-    go true here more = cc (rw here at e)
-    go false here more = rw here (more (rw here at e))
-
 -- and a word that names none is none of clap's either
 pub unknown_word : (word : Text) → command_named word ≡ None → subcommand_met names idle word ≡ None
-unknown_word word e = ap (option_map (λ s. s.0)) (none_answers commands word e)
+unknown_word word e = met_as word ∙ ap (option_map (λ c. c.name)) e
 
 -- ---- what a line means
 
@@ -220,7 +213,7 @@ command_obeyed program c rest l row known e = go (given_all c.options rest) refl
     go : (given : Option Given) → given_all c.options rest ≡ given → Obeys program c.name rest l
     go None is = cc (rw is at e)
     go (Some g) is =
-        let taken = takes_command program c.name c.options row.enters rest g is in
+        let taken = takes_command program c.name c.options (enters c known row.table) rest g is in
         let same : c.line (choices_given g) ≡ l = cc (rw is at e) in
         let rows = rows_of_all c.options g in
         let here : line_found c.name rows ≡ Some (c.line (choices_found rows)) = ap (option_map (λ c. c.line (choices_found rows))) known in

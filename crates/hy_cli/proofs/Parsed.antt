@@ -12,7 +12,7 @@ use Rattle.clap.specs.declared.parser.matches.SubCommand.{SubCommand}
 use Rattle.hy_base.specs.Spelling.{Text}
 use Rattle.hy_cli.specs.CommandLine.{command_named, line_of, names_command}
 use Rattle.hy_cli.specs.Matches.{has_accepted, hyder_app, line_found, meant}
-use Rattle.hy_cli.specs.declared.line.Line.{Line}
+use Rattle.hy_cli.specs.declared.commands.Line.{Line}
 use Rattle.hy_cli.proofs.Lines.{line_obeyed, program_simple}
 use Rattle.hy_cli.proofs.Refusals.{taken_words}
 

@@ -14,7 +14,7 @@ use Rattle.hy_cli.specs.CommandLine.{CliCommand, CliOption, command_named, names
 use Rattle.hy_cli.specs.Matches.{has_accepted, hyder_app, is_accepted}
 use Rattle.hy_cli.proofs.Walks.{built_rules, leaf_shape}
 use Rattle.hy_cli.proofs.Accepted.{bundle_plain, leaf_accepted, or_nil}
-use Rattle.hy_cli.proofs.Lines.{Enters, IsTableRow, named_row, names, top, unknown_word, walk_ends}
+use Rattle.hy_cli.proofs.Lines.{Enters, IsTableRow, enters, named_row, names, top, unknown_word, walk_ends}
 
 -- ---- the words name a command
 
@@ -112,7 +112,7 @@ pub record IsTaken (words : List Text) : Type 0 where
 command_taken : (program : Text) (c : CliCommand) (rest : List Text) → IsTableRow c → command_named c.name ≡ Some c → fault_of hyder_app (program ∷ (c.name ∷ rest)) ≡ [] → IsTaken (program ∷ (c.name ∷ rest))
 command_taken program c rest row known e =
     let rows = rows_after (built_rules c.options) [] rest in
-    let taken = named_accepted program c.name c.options row.enters rest e in
+    let taken = named_accepted program c.name c.options (enters c known row.table) rest e in
     record {
       name = c.name;
       rows = rows;

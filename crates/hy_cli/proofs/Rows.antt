@@ -3,8 +3,9 @@ use Rattle.std.proofs.Common.{◌≡◌, true, false, refl, List, [], ◌∷◌,
 use Rattle.std.specs.Fmt.{digits}
 use Rattle.hy_base.specs.Spelling.{Text}
 use Rattle.hy_cli.specs.CommandLine.{line_of}
-use Rattle.hy_cli.specs.declared.line.Line.{Line}
-use Rattle.hy_cli.specs.declared.line.Line.TheVariants.{Run, Sim, Recover, Check, Compact, Ship, Follow, Load}
+use Rattle.hy_cli.specs.declared.commands.Line.{Line}
+use Rattle.hy_cli.specs.declared.commands.Line.TheVariants.{Run, Sim, Tell, Compact, Follow, Load}
+use Rattle.hy_cli.specs.declared.commands.Report.TheVariants.{Dump, Verdicts, Stream}
 
 abbrev hyder : List Text → Option Line
 hyder words = line_of (codes "hyder" ∷ words)
@@ -72,16 +73,16 @@ twice : hyder (codes "sim" ∷ threads ∷ codes "4" ∷ threads ∷ codes "4" �
 unfolding digits
 twice = refl
 
-recovers : hyder (codes "recover" ∷ []) ≡ Some Recover
+recovers : hyder (codes "recover" ∷ []) ≡ Some (Tell Dump)
 recovers = refl
 
-checks : hyder (codes "check" ∷ []) ≡ Some Check
+checks : hyder (codes "check" ∷ []) ≡ Some (Tell Verdicts)
 checks = refl
 
 compacts : hyder (codes "compact" ∷ []) ≡ Some Compact
 compacts = refl
 
-ships : hyder (codes "ship" ∷ []) ≡ Some Ship
+ships : hyder (codes "ship" ∷ []) ≡ Some (Tell Stream)
 ships = refl
 
 follows : hyder (codes "follow" ∷ threads ∷ codes "4" ∷ []) ≡ Some (Follow 4)

@@ -3,7 +3,7 @@ use Rattle.std.specs.Prelude.{◌≡◌, ◌⊎◌, List, Some}
 use Rattle.hy_base.specs.Spelling.{Text}
 use Rattle.hy_cli.specs.CommandLine.{line_of}
 use Rattle.hy_cli.specs.Matches.{Asks, refuses}
-use Rattle.hy_cli.specs.declared.line.Line.{Line}
+use Rattle.hy_cli.specs.declared.commands.Line.{Line}
 
 -- words that are a line ask for just that line
 abbrev pub LineAsksForItself : Type 0

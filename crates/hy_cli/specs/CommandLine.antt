@@ -1,16 +1,18 @@
 -- What the words of a command line ask for: one command with its options, or nothing.
 --     A command is a row of the table `commands`, and an option is one of its command's table. So a further command or
---     option is a further row.
+--     option is a further row; a command that tells of the log is one of `reports`.
 use Rattle.std.specs.Prelude.{ℕ, Bool, true, false, not, ◌&&◌, ◌||◌, List, [], ◌∷◌, ◌++◌, Option, Some, None, if◌then◌else◌}
-use Rattle.std.specs.Prelude.{codes, bytes_eq, option_map, option_and_then, slice_get, is_some}
+use Rattle.std.specs.Prelude.{map, codes, bytes_eq, option_map, option_and_then, slice_get, is_some}
 use Rattle.std.specs.List.{find, list_all, list_any}
 use Rattle.std.specs.Option.{option_map_or}
 use Rattle.std.specs.Str.Parse.{digits_value}
 use Rattle.hy_base.specs.Spelling.{Text, number_of}
 use Rattle.hy_base.specs.Shape.{is_within}
 use Rattle.hy_base.specs.Limits.{IsThreadCount, IsLoadSize, largest_load, most_threads}
-use Rattle.hy_cli.specs.declared.line.Line.{Line}
-use Rattle.hy_cli.specs.declared.line.Line.TheVariants.{Run, Sim, Recover, Check, Compact, Ship, Follow, Load}
+use Rattle.hy_cli.specs.declared.commands.Line.{Line}
+use Rattle.hy_cli.specs.declared.commands.Line.TheVariants.{Run, Sim, Tell, Compact, Follow, Load}
+use Rattle.hy_cli.specs.declared.commands.Report.{Report}
+use Rattle.hy_cli.specs.declared.commands.Report.TheVariants.{Dump, Verdicts, Stream}
 
 -- ---- options
 
@@ -79,17 +81,8 @@ run_command = record {
 abbrev pub sim_command : CliCommand
 sim_command = record { name = codes "sim"; options = threads_option ∷ []; line = λ c. Sim (c.number_or 2 (codes "threads")) }
 
-abbrev pub recover_command : CliCommand
-recover_command = record { name = codes "recover"; options = []; line = λ c. Recover }
-
-abbrev pub check_command : CliCommand
-check_command = record { name = codes "check"; options = []; line = λ c. Check }
-
 abbrev pub compact_command : CliCommand
 compact_command = record { name = codes "compact"; options = []; line = λ c. Compact }
-
-abbrev pub ship_command : CliCommand
-ship_command = record { name = codes "ship"; options = []; line = λ c. Ship }
 
 abbrev pub follow_command : CliCommand
 follow_command =
@@ -103,10 +96,21 @@ load_command = record {
   line = λ c. Load (c.number_or 0 (codes "seed")) (c.number_or 1 (codes "size")) (c.number_or 2 (codes "threads"));
 }
 
+-- what is told of a log, each by a command of this name, without options
+abbrev pub reports : List Report
+reports = Dump ∷ Verdicts ∷ Stream ∷ []
+
+abbrev pub report_word : Report → Text
+report_word Dump = codes "recover"
+report_word Verdicts = codes "check"
+report_word Stream = codes "ship"
+
+abbrev pub report_command : Report → CliCommand
+report_command report = record { name = report_word report; options = []; line = λ c. Tell report }
+
 abbrev pub commands : List CliCommand
 commands =
-    run_command ∷ sim_command ∷ recover_command ∷ check_command ∷ compact_command ∷ ship_command ∷ follow_command
-    ∷ load_command ∷ []
+    run_command ∷ sim_command ∷ compact_command ∷ follow_command ∷ load_command ∷ map report_command reports
 
 abbrev pub command_named : Text → Option CliCommand
 command_named word = find (λ c. bytes_eq c.name word) commands
@@ -123,12 +127,14 @@ IsInOptionRange _ = Unit {0}
 abbrev pub command_word : Line → Text
 command_word (Run threads point save) = codes "run"
 command_word (Sim threads) = codes "sim"
-command_word Recover = codes "recover"
-command_word Check = codes "check"
+command_word (Tell report) = report_word report
 command_word Compact = codes "compact"
-command_word Ship = codes "ship"
 command_word (Follow threads) = codes "follow"
 command_word (Load seed size threads) = codes "load"
+
+-- the line that is written where words ask for nothing
+abbrev pub usage_text : Text
+usage_text = codes "hyder: usage: run|sim|recover|check|load|compact|ship|follow" ++ 10 ∷ []
 
 -- ---- the words after the command
 

@@ -7,14 +7,13 @@
 //! here, a word for help is a wrong command, and the table of commands and options is a definition.
 #![tactic(auto)]
 
-mod command;
+mod commands;
 mod laws;
-mod line;
-mod matched;
+mod options;
 mod parsing;
 mod words;
 
+pub use commands::{Line, Report, usage_line};
 pub use laws::{line_asks_for_itself, words_ask_for_one, words_ask_or_are_refused};
-pub use line::{CliError, Line};
-pub use parsing::parse;
+pub use parsing::{CliError, parse};
 pub use words::Words;

@@ -2,13 +2,41 @@
 ghost use Rattle.std.specs.Prelude.{◌≡◌, Some, false, map, IsErr, IfErr, IfOk, MatchResult, slice_get};
 ghost use Rattle.hy_cli.specs.CommandLine.{IsInOptionRange, command_word, line_of, names_command};
 ghost use Rattle.hy_cli.specs.Matches.{Asks, refuses};
-ghost use Rattle.hy_cli.specs.declared.line.Line.{Line};
+ghost use Rattle.hy_cli.specs.declared.commands.Line.{Line};
+ghost use Rattle.hy_cli.specs.declared.parsing.CliError.TheVariants.{Memory};
 
-use crate::command::hyder_command;
-use crate::matched::line_from;
-use crate::{CliError, Line, Words};
+use crate::commands::{hyder_command, line_from};
+use crate::{Line, Words};
 use clap::error::ErrorKind;
-use std::alloc::{AllocError, Global};
+use std::alloc::{AllocError, AllocFailed, Global};
+use thiserror::Error;
+
+/// Why a command line asks for nothing.
+#[derive(Clone, Copy, Debug, PartialEq, Eq, Error)]
+pub enum CliError {
+    /// The words are no command of the program, or its options are wrong.
+    #[error("the words are no command line")]
+    Usage,
+    /// Out of memory.
+    #[error("out of memory")]
+    Memory,
+}
+
+impl From<AllocError> for CliError {
+    ghost from_gives = { λ _ error. error ≡ Memory };
+
+    fn from(_: AllocError) -> Self {
+        Self::Memory
+    }
+}
+
+impl<T: Drop> From<AllocFailed<T>> for CliError {
+    ghost from_gives = { λ _ error. error ≡ Memory };
+
+    fn from(_: AllocFailed<T>) -> Self {
+        Self::Memory
+    }
+}
 
 /// What the words ask for, by the command that the word after the program's name is.
 ///

@@ -20,7 +20,7 @@ use Rattle.hy_run.specs.Running.{IsScriptRefused}
 use Rattle.hy_run.specs.RunningParts.{IsReadingFault}
 use Rattle.hy_run.specs.StreamParts.{IsStreamFault}
 use Rattle.hy_run.specs.Streams.{IsFollowed, IsStreamRefused}
-use Rattle.hy_run.specs.declared.inspect.Report.{Report}
+use Rattle.hy_cli.specs.declared.commands.Report.{Report}
 use Rattle.hy_run.specs.declared.status.RunOptions.{RunOptions}
 use Rattle.hy_run.specs.declared.status.Status.{Status}
 use Rattle.hy_run.specs.declared.status.Status.TheVariants as status

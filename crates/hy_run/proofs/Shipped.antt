@@ -21,5 +21,5 @@ read_as bytes x y read whole = go (nat_lt longest_source (length bytes)) refl
 pub shipped_is_followed : ShippedIsFollowed
 shipped_is_followed seen shipped checked followed ship check follow =
     let log : ship.0 ≡ check.0 = (let both : Ok ship.0 ≡ Ok check.0 = sym (ship.3 refl) ∙ check.3 refl in cc both) in
-    let taken = read_as shipped (follow.shape, follow.entries) _ (ap read_stream follow.are_of ∙ follow.whole) ship.4 in
+    let taken = read_as shipped (follow.shape, follow.entries) _ (ap read_stream follow.are_of ∙ follow.whole) (ship.4 refl) in
     follow.text_is ∙ ap (λ (t : Option Shape × List EntryKind). verdicts_text t.0 t.1) taken ∙ ap check_of log ∙ sym check.1

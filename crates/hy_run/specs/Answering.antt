@@ -7,7 +7,7 @@ use Rattle.hy_formats.specs.Checkpoint.{Checkpoint}
 use Rattle.hy_formats.specs.declared.damage.BadFrame.{BadFrame}
 use Rattle.hy_cli.specs.CommandLine.{line_of, names_command}
 use Rattle.hy_cli.specs.Matches.{Asks, refuses}
-use Rattle.hy_cli.specs.declared.line.Line.{Line}
+use Rattle.hy_cli.specs.declared.commands.Line.{Line}
 use Rattle.hy_script.specs.declared.why.Why.{Why}
 use Rattle.hy_run.specs.Compacting.{LeavesSpareBy}
 use Rattle.hy_run.specs.Fates.{DeviceFails, Fate, Fits, LeavesLog, LeavesPoint, acked_by}

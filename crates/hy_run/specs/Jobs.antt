@@ -6,8 +6,8 @@ use Rattle.hy_base.specs.Spelling.{Text}
 use Rattle.hy_formats.specs.Checkpoint.{Checkpoint}
 use Rattle.hy_formats.specs.LogFormat.{is_unborn}
 use Rattle.hy_rules.specs.Recovery.{Recovered, recovered}
-use Rattle.hy_cli.specs.declared.line.Line.{Line}
-use Rattle.hy_cli.specs.declared.line.Line.TheVariants.{Run, Sim, Recover, Check, Compact, Ship, Follow, Load}
+use Rattle.hy_cli.specs.declared.commands.Line.{Line}
+use Rattle.hy_cli.specs.declared.commands.Line.TheVariants.{Run, Sim, Tell, Compact, Follow, Load}
 use Rattle.hy_script.specs.Input.{read_input}
 use Rattle.hy_script.specs.ScriptReading.{refused_at}
 use Rattle.hy_script.specs.declared.input.Input.{Input}
@@ -22,8 +22,7 @@ use Rattle.hy_run.specs.Running.{CanBeRun, IsForScript, IsLogRefused, IsRunText,
 use Rattle.hy_formats.specs.declared.damage.BadFrame.{BadFrame}
 use Rattle.hy_run.specs.Source.{read_source}
 use Rattle.hy_run.specs.Streams.{IsFollowed, IsStreamRefused, read_stream}
-use Rattle.hy_run.specs.declared.inspect.Report.{Report}
-use Rattle.hy_run.specs.declared.inspect.Report.TheVariants.{Dump, Verdicts, Stream}
+use Rattle.hy_cli.specs.declared.commands.Report.{Report}
 use Rattle.hy_run.specs.declared.status.RunOptions.{RunOptions}
 use Rattle.hy_run.specs.declared.status.Status.{Status}
 
@@ -42,10 +41,8 @@ abbrev pub job_of : Line → Job
 job_of (Run threads point save) = runs (record { from_point = point; save = save })
 job_of (Sim threads) = simulates
 job_of (Load seed size threads) = loads seed size
-job_of Recover = tells_of_log Dump
-job_of Check = tells_of_log Verdicts
+job_of (Tell report) = tells_of_log report
 job_of Compact = compacts
-job_of Ship = tells_of_log Stream
 job_of (Follow threads) = follows
 
 -- What a job means, by the bytes that its source has left, if it tells them, and by the devices of the log, the saved point and

@@ -17,7 +17,7 @@ use Rattle.hy_run.specs.Inspection.{IsReport, IsUntold}
 use Rattle.hy_run.specs.Jobs.{IsOpenedIfBorn, LeavesUnborn}
 use Rattle.hy_run.specs.Output.{IsFault}
 use Rattle.hy_run.specs.Over.{Over}
-use Rattle.hy_run.specs.declared.inspect.Report.{Report}
+use Rattle.hy_cli.specs.declared.commands.Report.{Report}
 use Rattle.hy_run.specs.declared.status.Status.{Status}
 use Rattle.hy_run.specs.declared.status.Status.TheVariants as status
 use Rattle.hy_run.specs.declared.status.Which.TheVariants as which

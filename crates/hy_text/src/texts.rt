@@ -6,7 +6,7 @@ ghost use Rattle.std.specs.List.{enumerate_from};
 ghost use Rattle.hy_base.specs.Spelling.{event_words, line};
 ghost use Rattle.hy_formats.specs.Texts.{abort_words, answer_text, client_text, memory_fault_text, outcome_words, reply_text};
 ghost use Rattle.hy_formats.specs.Texts.{report_text, row_text, script_fault_text, server_text, source_fault_text, trace_text};
-ghost use Rattle.hy_formats.specs.Texts.{usage_text, verdict_words};
+ghost use Rattle.hy_formats.specs.Texts.{verdict_words};
 ghost use Rattle.hy_text.specs.LineWords.{spaced, word_text};
 
 use hy_base::{
@@ -317,13 +317,6 @@ pub fn write_report(alloc: Global, results: &Results) -> Result<Vec<u8>, AllocEr
     put_clients(&mut out, results.replies.as_slice())?;
     put_servers(&mut out, results.servers.as_slice())?;
     Ok(out)
-}
-
-/// The line for a command line that asks for nothing that the program does.
-pub fn usage_line() -> &'static [u8]
-    ensures { result.now ≡ usage_text }
-{
-    b"hyder: usage: run|sim|recover|check|load|compact|ship|follow\n"
 }
 
 /// The line for a source that failed.

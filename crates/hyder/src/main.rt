@@ -3,15 +3,14 @@
 //! `hyder run` reads a script from the standard input and runs its clients over the log in the file `hyder.log` of the working
 //! directory, from the point saved in `hyder.points` where `--point` asks for it, and saves one there where `--save` does;
 //! `hyder sim` runs a script with its schedule, and touches no file. Both write the trace and the report to the standard
-//! output. `hyder recover` writes the dump of the log, and `hyder check` what became of its entries. `hyder compact` copies the
-//! log past the base of the saved point to `hyder.spare`, which no other command touches. `hyder ship` writes the log's stream,
-//! and `hyder follow` what became of the entries of such a stream; it touches no file. `hyder load` runs a generated script and
-//! writes its summary. The status is 0 where all of that text is written, 1 for a fault of usage, 2 for a script that is
-//! refused, 3 and 4 where the input or the output fails, 5 where a file fails, 6 for a log that is refused, 7 for one of
-//! another shape, 8 for a saved point that is refused, is further than the log, or whose base the log was cut past, 9 where it
-//! is out of memory, 10 for a log of which nothing is to be cut, 11 where `hyder.spare` is in use, 12 for a stream that is
-//! refused, and 13 for a log whose tables aren't sound; all but 0, 4, and a 9 while the words are read have one line. Nothing
-//! goes to the standard error.
+//! output. A command for each `Report` of `hy_cli`, as `hyder recover`, writes what is told of the log. `hyder compact` copies
+//! the log past the base of the saved point to `hyder.spare`, which no other command touches. `hyder follow` writes what became
+//! of the entries of a stream that `hyder ship` wrote; it touches no file. `hyder load` runs a generated script and writes its
+//! summary. The status is 0 where all of that text is written, 1 for a fault of usage, 2 for a script that is refused, 3 and 4
+//! where the input or the output fails, 5 where a file fails, 6 for a log that is refused, 7 for one of another shape, 8 for a
+//! saved point that is refused, is further than the log, or whose base the log was cut past, 9 where it is out of memory, 10
+//! for a log of which nothing is to be cut, 11 where `hyder.spare` is in use, 12 for a stream that is refused, and 13 for a log
+//! whose tables aren't sound; all but 0, 4, and a 9 while the words are read have one line. Nothing goes to the standard error.
 #![tactic(auto)]
 
 ghost use Rattle.std.specs.Prelude.{◌≡◌, ℕ, IfOk, map, string_bytes};

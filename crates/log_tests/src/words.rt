@@ -1,4 +1,4 @@
-use hy_cli::{CliError, Line, Words, parse};
+use hy_cli::{CliError, Line, Report, Words, parse};
 use std::alloc::{AllocError, Global};
 use std::process::Abort;
 use std::test::Fail;
@@ -43,8 +43,10 @@ fn lines_are_obeyed(rt: HostRuntime) -> Result<(), Fail> {
         ("hyder run --save --threads 1 --point", run(1, true, true)),
         ("hyder sim", Line::Sim { threads: 2 }),
         ("hyder sim --threads 1", Line::Sim { threads: 1 }),
-        ("hyder recover", Line::Recover),
-        ("hyder check", Line::Check),
+        ("hyder recover", Line::Tell(Report::Dump)),
+        ("hyder check", Line::Tell(Report::Verdicts)),
+        ("hyder ship", Line::Tell(Report::Stream)),
+        ("hyder compact", Line::Compact),
         ("hyder load --seed 0 --size 1", load(0, 1, 2)),
         (
             "hyder load --threads 16 --size 80000 --seed 18446744073709551615",

@@ -5,7 +5,7 @@ use Rattle.clap.specs.Words.{fault_of}
 use Rattle.hy_base.specs.Spelling.{Text}
 use Rattle.hy_cli.specs.CommandLine.{CliCommand, command_named}
 use Rattle.hy_cli.specs.Matches.{Asks, choices_found, hyder_app, meant, refuses}
-use Rattle.hy_cli.specs.declared.line.Line.{Line}
+use Rattle.hy_cli.specs.declared.commands.Line.{Line}
 use Rattle.hy_cli.proofs.Refusals.{IsTaken, taken_words}
 use Rattle.hy_cli.proofs.laws.words_ask_or_are_refused.Goals as goal
 

@@ -3,8 +3,8 @@ use Rattle.std.specs.Prelude.{IsErr, IfErr, IfOk, MatchResult, slice_get}
 use Rattle.hy_base.specs.Spelling.{Text}
 use Rattle.hy_cli.specs.CommandLine.{command_word, line_of, names_command}
 use Rattle.hy_cli.specs.Matches.{Asks, refuses}
-use Rattle.hy_cli.specs.declared.line.Line.{Line}
-use Rattle.hy_cli.specs.declared.line.CliError.TheVariants.{Memory, Usage}
+use Rattle.hy_cli.specs.declared.commands.Line.{Line}
+use Rattle.hy_cli.specs.declared.parsing.CliError.TheVariants.{Memory, Usage}
 use Rattle.hy_cli.proofs.parsing.parse.Goals as goal
 
 pub returns-clause-obeyed : goal.returns-clause-obeyed

@@ -1,5 +1,5 @@
 use Rattle.std.proofs.Common.{⊎_elim, refl, subst}
-use Rattle.hy_cli.specs.declared.line.Line.{Line}
+use Rattle.hy_cli.specs.declared.commands.Line.{Line}
 use Rattle.hy_run.specs.Handovers.{IsAlone}
 use Rattle.hy_run.specs.Jobs.{job_of}
 use Rattle.hy_run.proofs.Ending.{followed_done}

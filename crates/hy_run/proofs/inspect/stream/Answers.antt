@@ -5,7 +5,7 @@ use Rattle.hy_base.specs.Shape.{IsGoodShape}
 use Rattle.hy_formats.specs.EntryFormat.{spelling}
 use Rattle.hy_formats.specs.StreamFormat.{frame, stream_bytes, stream_head}
 use Rattle.hy_log.specs.View.{header_of}
-use Rattle.hy_run.specs.declared.inspect.Report.TheVariants.{Stream}
+use Rattle.hy_cli.specs.declared.commands.Report.TheVariants.{Stream}
 use Rattle.hy_run.proofs.Inspecting.{audit_first_as, fault_told_as, streamed_log}
 use Rattle.hy_entries.proofs.PastCut.{from_start, refused_past}
 use Rattle.hy_run.proofs.inspect.stream.Goals as goal

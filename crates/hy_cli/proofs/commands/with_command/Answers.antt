@@ -1,7 +1,7 @@
 use Rattle.std.proofs.Common.{◌≡◌, ◌∙◌, Ok, ap, refl}
 use Rattle.std.proofs.lemmas.Result.{IfOk-at_ok, IfOk-weaker}
 use Rattle.clap.specs.Words.{App, app_of, with_subcommand}
-use Rattle.hy_cli.proofs.command.with_command.Goals as goal
+use Rattle.hy_cli.proofs.commands.with_command.Goals as goal
 
 pub returns : goal.returns
 returns c =

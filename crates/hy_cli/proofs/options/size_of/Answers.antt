@@ -5,7 +5,7 @@ use Rattle.hy_cli.specs.Matches.{choices_found}
 use Rattle.hy_base.specs.Shape.{IsWithin}
 use Rattle.hy_base.specs.Limits.{largest_load}
 use Rattle.hy_cli.proofs.Getters.{needed_in_range, reads_number}
-use Rattle.hy_cli.proofs.matched.size_of.Goals as goal
+use Rattle.hy_cli.proofs.options.size_of.Goals as goal
 
 pub overflow_cast-result : goal.overflow_cast-result
 overflow_cast-result c =

@@ -3,7 +3,7 @@ use Rattle.std.proofs.lemmas.Result.{IfOk-weaker}
 use Rattle.clap.specs.Words.{new_app}
 use Rattle.hy_cli.specs.CommandLine.{seed_option, size_option, threads_option}
 use Rattle.hy_cli.proofs.Building.{option_added}
-use Rattle.hy_cli.proofs.command.load_command.Goals as goal
+use Rattle.hy_cli.proofs.commands.load_command.Goals as goal
 
 pub returns : goal.returns
 returns c =

@@ -3,7 +3,7 @@ use Rattle.std.proofs.lemmas.Result.{IfOk-weaker}
 use Rattle.clap.specs.Words.{new_app}
 use Rattle.hy_cli.specs.CommandLine.{point_option, save_option, threads_option}
 use Rattle.hy_cli.proofs.Building.{option_added}
-use Rattle.hy_cli.proofs.command.run_command.Goals as goal
+use Rattle.hy_cli.proofs.commands.run_command.Goals as goal
 
 pub returns : goal.returns
 returns c =

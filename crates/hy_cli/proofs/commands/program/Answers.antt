@@ -1,7 +1,7 @@
 use Rattle.std.proofs.Common.{◌≡◌, ◌∙◌, ap, true, codes}
 use Rattle.clap.specs.Words.{Shape, app_of, new_app}
 use Rattle.clap.specs.Simple.{app_of_fields, on_top}
-use Rattle.hy_cli.proofs.command.program.Goals as goal
+use Rattle.hy_cli.proofs.commands.program.Goals as goal
 
 abbrev no_help_flag : Shape → Shape
 no_help_flag s = record s { disable_help_flag = true }

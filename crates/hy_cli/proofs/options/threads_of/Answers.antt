@@ -4,7 +4,7 @@ use Rattle.clap.specs.Words.{found_of, rows_of}
 use Rattle.hy_cli.specs.Matches.{choices_found}
 use Rattle.hy_base.specs.Limits.{IsThreadCount, most_threads}
 use Rattle.hy_cli.proofs.Getters.{found_in_range, reads_number}
-use Rattle.hy_cli.proofs.matched.threads_of.Goals as goal
+use Rattle.hy_cli.proofs.options.threads_of.Goals as goal
 
 pub overflow_cast-result : goal.overflow_cast-result
 overflow_cast-result c =
