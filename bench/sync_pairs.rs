@@ -1,4 +1,4 @@
-// The least that N durable commits cost on a device where each is two writes, each of them synced: 257 bytes at the end,
+// The least that N durable commits cost on a device where each is two writes, each with an fdatasync: 256 bytes at the end,
 // and then one byte before them. So `hyder run` appends an entry of one page.
 //
 //     sync_pairs FILE N
@@ -18,9 +18,9 @@ fn main() -> std::io::Result<()> {
     let record = [1u8; 256];
     for at in 0..count {
         file.write_all_at(&record, 256 * at + 1)?;
-        file.sync_all()?;
+        file.sync_data()?;
         file.write_all_at(&[0x47], 256 * at)?;
-        file.sync_all()?;
+        file.sync_data()?;
     }
     Ok(())
 }

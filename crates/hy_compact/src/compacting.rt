@@ -41,8 +41,8 @@ fn is_blank<D: Disk>(log: &PageLog<D>, shape: Shape, from: Pos) -> bool
 /// unborn. The log of these entries was of this shape, and its version has a spelling of each.
 ///
 /// After Ok each image of the spare device holds a log that was cut there, with exactly these entries. A crash at any moment
-/// of the call leaves an unborn device, one without records, or the first of these entries behind the cut. `Device`: the
-/// spare device failed. `InUse`: it isn't unborn. `Memory`: out of memory. Each refusal hands the device back.
+/// of the call, with nothing pending before, leaves an unborn device, one without records, or the first of these entries behind
+/// the cut. `Device`: the spare device failed. `InUse`: it isn't unborn. `Memory`: out of memory. Each hands the device back.
 pub fn copy_past<D: Disk>(
     alloc: Global,
     entries: &[Entry],

@@ -8,7 +8,7 @@
 //! of the entries of a stream that `hyder ship` wrote; it touches no file. `hyder load` runs a generated script and writes its
 //! summary. The status is 0 where all of that text is written, 1 for a fault of usage, 2 for a script that is refused, 3 and 4
 //! where the input or the output fails, 5 where a file fails, 6 for a log that is refused, 7 for one of another shape, 8 for a
-//! saved point that is refused, is further than the log, or whose base the log was cut past, 9 where it is out of memory, 10
+//! saved point that is refused or further than the log, or a log cut past its base (0 without one), 9 where memory is out, 10
 //! for a log of which nothing is to be cut, 11 where `hyder.spare` is in use, 12 for a stream that is refused, and 13 for a log
 //! whose tables aren't sound; all but 0, 4, and a 9 while the words are read have one line. Nothing goes to the standard error.
 #![tactic(auto)]
