@@ -1,7 +1,7 @@
-//! Tests of the log and of what it depends on: values, the plain fold, sources and sinks; words, scripts and
-//! generated loads; bytes of entries, pages and saved points, and texts; devices in memory and in files; the log on them,
-//! and saves of points, with what a stop in each device call leaves. Bytes and answers were counted by hand. It promises
-//! nothing to a crate above.
+//! Tests of the log, its devices, and all that is read and written: values, the plain fold, sources and sinks; words, scripts
+//! and generated loads; bytes of entries, pages and saved points, and texts; devices in memory and in files; the log on them,
+//! and saves of points, with what a stop in each device call leaves. Bytes and answers, but for loads, were counted by hand.
+//! It promises nothing to a crate above.
 #![tactic(auto)]
 
 #[cfg(test)]
